@@ -1,0 +1,6 @@
+pub mod Classes
+pub mod Fields
+pub mod Table
+pub mod Formats
+pub mod Words
+pub mod Outcomes

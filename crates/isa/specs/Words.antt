@@ -1,0 +1,42 @@
+-- What a word reads as, what an instruction is written as, and the number of each refusal.
+-- Assumes nothing.
+use Prim.Native.Nat.{ℕ}
+use mathlib.Core.Bool.{cond}
+use Rattle.std.specs.declared.option.Option.{Option}
+use Rattle.std.specs.declared.option.Option.the-variants.{Some, None}
+use Rattle.std.specs.declared.result.Result.{Result}
+use Rattle.std.specs.declared.result.Result.the-variants.{Ok, Err}
+use Rattle.isa.specs.declared.instruction.Instruction.{Instruction}
+use Rattle.isa.specs.declared.words.IllegalWord.{IllegalWord}
+use Rattle.isa.specs.declared.words.WriteFault.{WriteFault}
+use Rattle.isa.specs.declared.words.WriteFault.the-variants.{BadRegister, BadImmediate}
+use Rattle.isa.specs.declared.operation.Operation.{Operation}
+use Rattle.isa.specs.declared.table.Row.{Row}
+use Rattle.isa.specs.Fields.{cut, joined}
+use Rattle.isa.specs.Table.{rowOf, chosen}
+use Rattle.isa.specs.Formats.{taken, registersFit, immediateFits, layOf}
+
+abbrev pub readAs : Option Operation → ℕ → Result Instruction IllegalWord
+readAs (Some o) w = Ok (taken o (cut w))
+readAs None w = Err (record { word = w })
+
+abbrev pub readWord : ℕ → Result Instruction IllegalWord
+readWord w = readAs (chosen (cut w)) w
+
+-- the registers are judged before the immediate
+abbrev pub writeAs : Row → Instruction → Result ℕ WriteFault
+writeAs k i =
+    cond (registersFit (k .format) i)
+    (cond (immediateFits (k .format) (i .immediate)) (Ok (joined (layOf k i))) (Err BadImmediate))
+    (Err BadRegister)
+
+abbrev pub writeWord : Instruction → Result ℕ WriteFault
+writeWord i = writeAs (rowOf (i .operation)) i
+
+-- the numbers of the refusals
+abbrev pub writeFaultNumber : WriteFault → ℕ
+writeFaultNumber BadRegister = 20
+writeFaultNumber BadImmediate = 21
+
+abbrev pub illegalWordNumber : IllegalWord → ℕ
+illegalWordNumber e = 22
