@@ -1,6 +1,6 @@
 // The operations by their manual names, and the class of each.
 ghost use mathlib.Core.Path.{_≡_};
-ghost use Rattle.isa.specs.Classes.{classOf, classNumber};
+ghost use Rattle.isa.specs.Classes.{kindOf, classOf, classNumber};
 
 #[derive(Clone, Copy, PartialEq, Eq, Debug)]
 pub enum Operation {
@@ -65,16 +65,26 @@ impl Class {
     }
 }
 
+// Who carries an operation out: a unit of some class, or the machine itself.
+#[derive(Clone, Copy, PartialEq, Eq, Debug)]
+pub enum Kind {
+    Worked(Class),
+    EnvironmentCall,
+    Breakpoint,
+    TrapReturn,
+}
+
 impl Operation {
-    // None for the three that the machine itself carries out.
-    pub fn class(self) -> Option<Class>
-        ensures { λ r. ⌜ r ≡ classOf self ⌝ }
+    pub fn kind(self) -> Kind
+        ensures { λ r. ⌜ r ≡ kindOf self ⌝ }
     {
         match self {
-            Operation::Ecall | Operation::Ebreak | Operation::Mret => None,
-            Operation::Mul => Some(Class::Multiply),
+            Operation::Ecall => Kind::EnvironmentCall,
+            Operation::Ebreak => Kind::Breakpoint,
+            Operation::Mret => Kind::TrapReturn,
+            Operation::Mul => Kind::Worked(Class::Multiply),
             Operation::Div | Operation::Divu | Operation::Rem | Operation::Remu => {
-                Some(Class::Divide)
+                Kind::Worked(Class::Divide)
             }
             Operation::Jal
             | Operation::Jalr
@@ -83,8 +93,18 @@ impl Operation {
             | Operation::Blt
             | Operation::Bge
             | Operation::Bltu
-            | Operation::Bgeu => Some(Class::Transfer),
-            _ => Some(Class::Plain),
+            | Operation::Bgeu => Kind::Worked(Class::Transfer),
+            _ => Kind::Worked(Class::Plain),
+        }
+    }
+
+    // None for the three that the machine itself carries out.
+    pub fn class(self) -> Option<Class>
+        ensures { λ r. ⌜ r ≡ classOf self ⌝ }
+    {
+        match self.kind() {
+            Kind::Worked(class) => Some(class),
+            _ => None,
         }
     }
 }
