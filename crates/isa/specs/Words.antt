@@ -1,7 +1,10 @@
 -- What a word reads as, what an instruction is written as, and the number of each refusal.
 -- Assumes nothing.
-use Prim.Native.Nat.{ℕ}
+use Prim.Native.Nat.{ℕ, _^_, _<_}
+use mathlib.Core.Path.{_≡_}
 use mathlib.Core.Bool.{cond}
+use mir.Val.{SFits}
+use mir.Syntax.{w32}
 use Rattle.std.specs.declared.option.Option.{Option}
 use Rattle.std.specs.declared.option.Option.the-variants.{Some, None}
 use Rattle.std.specs.declared.result.Result.{Result}
@@ -40,3 +43,12 @@ writeFaultNumber BadImmediate = 21
 
 abbrev pub illegalWordNumber : IllegalWord → ℕ
 illegalWordNumber e = 22
+
+-- words and the instructions that can be written are one to one: two words that read as one instruction are one word,
+abbrev pub OneWord : Type 0
+OneWord = (v w : ℕ) → v < 2 ^ 32 → w < 2 ^ 32 → (i : Instruction) → readWord v ≡ Ok i → readWord w ≡ Ok i → v ≡ w
+
+-- and two instructions that are written as one word are one instruction
+abbrev pub OneInstruction : Type 0
+OneInstruction =
+    (i j : Instruction) → SFits w32 (i .immediate) → SFits w32 (j .immediate) → (w : ℕ) → writeWord i ≡ Ok w → writeWord j ≡ Ok w → i ≡ j

@@ -6,6 +6,7 @@
 //   outcome      what a classed instruction works out
 //   fields, table, formats: a word's fields, the rows of the manual's tables, the seven formats
 mod fields;
+mod formats;
 pub mod instruction;
 pub mod operation;
 pub mod outcome;

@@ -1,4 +1,13 @@
 // Instruction words read and written.
+ghost use mathlib.Core.Path.{_≡_};
+ghost use Rattle.std.specs.Vec.{made};
+ghost use Rattle.std.specs.declared.result.Result.the-variants.{Ok};
+ghost use Rattle.isa.specs.Words.{readWord, writeWord, writeFaultNumber, illegalWordNumber, OneWord, OneInstruction};
+use crate::fields;
+use crate::formats;
+use crate::instruction::Instruction;
+use crate::table;
+
 #[derive(Clone, Copy, PartialEq, Eq, Debug)]
 pub struct IllegalWord {
     pub word: u32,
@@ -8,4 +17,52 @@ pub struct IllegalWord {
 pub enum WriteFault {
     BadRegister,
     BadImmediate,
+}
+
+impl IllegalWord {
+    pub fn number(self) -> u8
+        ensures { λ r. ⌜ r ≡ illegalWordNumber self ⌝ }
+    {
+        22
+    }
+}
+
+impl WriteFault {
+    pub fn number(self) -> u8
+        ensures { λ r. ⌜ r ≡ writeFaultNumber self ⌝ }
+    {
+        match self {
+            WriteFault::BadRegister => 20,
+            WriteFault::BadImmediate => 21,
+        }
+    }
+}
+
+// What reads is written again as the same word, so no two words read alike.
+pub fn read(word: u32) -> Result<Instruction, IllegalWord>
+    ensures value { λ r. ⌜ r ≡ readWord word ⌝ }
+    ensures back { λ r. ⌜ made r (λ i. writeWord i ≡ Ok word) ⌝ }
+    ensures one { λ _. ⌜ OneWord ⌝ }
+{
+    let fields = fields::split(word);
+    match table::choose(fields) {
+        Some(operation) => Ok(formats::take(operation, fields)),
+        None => Err(IllegalWord { word }),
+    }
+}
+
+// What is written reads as the same instruction, so no two instructions are written alike.
+pub fn write(instruction: Instruction) -> Result<u32, WriteFault>
+    ensures value { λ r. ⌜ r ≡ writeWord instruction ⌝ }
+    ensures back { λ r. ⌜ made r (λ w. readWord w ≡ Ok instruction) ⌝ }
+    ensures one { λ _. ⌜ OneInstruction ⌝ }
+{
+    let row = table::row_of(instruction.operation);
+    if !formats::registers_fit(row.format, instruction) {
+        return Err(WriteFault::BadRegister);
+    }
+    if !formats::immediate_fits(row.format, instruction.immediate) {
+        return Err(WriteFault::BadImmediate);
+    }
+    Ok(fields::join(formats::lay(row, instruction)))
 }

@@ -1,0 +1,27 @@
+-- What is chosen for the fields of the word is what `readWord` chooses, and the round trip is a lemma.
+use mathlib.Core.Path.{_≡_, ap, sym, _∙_}
+use native.Mathlib.Omega.{arith}
+use borrow.Author.Needs.{needs}
+use Rattle.std.specs.declared.option.Option.the-variants.{Some}
+use Rattle.std.specs.declared.result.Result.the-variants.{Ok}
+use Rattle.isa.specs.Fields.{cut}
+use Rattle.isa.specs.Table.{chosen}
+use Rattle.isa.specs.Formats.{taken}
+use Rattle.isa.specs.Words.{readAs, writeWord}
+use Rattle.isa.proofs.Trips.{read-writes, one-word}
+use Rattle.isa.proofs.words.read.Needs as need
+
+pub returns-in-Some : need.returns-in-Some
+returns-in-Some c =
+    let w = c .args .word in
+    let o = c .in-Some .operation in
+    let e : chosen (cut w) ≡ Some o = ap chosen (sym (c .split-fields .ensures)) ∙ sym (c .choose .ensures) ∙ c .in-Some .is in
+    let i : c .take .result ≡ taken o (cut w) = c .take .ensures ∙ ap (taken o) (c .split-fields .ensures) in
+    record {
+      value = ap Ok i ∙ ap (λ x. readAs x w) (sym e);
+      back = ap writeWord i ∙ read-writes w o (omega arith) e;
+      one = one-word;
+    }
+
+pub returns-in-None : need.returns-in-None
+returns-in-None c = record { value = search needs; back = search needs; one = one-word }

@@ -1,0 +1,48 @@
+-- What the tests find is what `writeWord` asks, and the round trip is a lemma.
+use borrow.Author.Needs.{needs}
+use mathlib.Core.Path.{_≡_, ap, sym, subst, _∙_}
+use mathlib.Core.Bool.{true}
+use native.Mathlib.Omega.{arith}
+use Prim.Native.Nat.{_<_, _^_}
+use mir.Val.{SFits, ofZ}
+use mir.Syntax.{w32}
+use Rattle.std.proofs.shelf.Signed.{ints, toZ-ofZ}
+use Rattle.isa.specs.declared.table.Row.{Row}
+use Rattle.isa.specs.Fields.{joined, Whole}
+use Rattle.isa.specs.Table.{rowOf}
+use Rattle.isa.specs.Formats.{registersFit, immediateFits, layOf}
+use Rattle.isa.specs.Words.{readWord}
+use Rattle.isa.proofs.Chosen.{lay-whole}
+use Rattle.isa.proofs.Trips.{write-reads, one-instruction}
+use Rattle.isa.proofs.words.write.Needs as need
+
+pub returns-then-not-registers-fit : need.returns-then-not-registers-fit
+returns-then-not-registers-fit c = record { value = search needs; back = search needs; one = one-instruction }
+
+pub returns-then-not-immediate-fits : need.returns-then-not-immediate-fits
+returns-then-not-immediate-fits c = record { value = search needs; back = search needs; one = one-instruction }
+
+pub join-requires : need.join-requires
+join-requires c κs =
+    let i = c .args .instruction in
+    let h = c .row-of-row .ensures in
+    let t : SFits w32 (i .immediate) = search needs in
+    let u : ofZ w32 (i .immediate) < 2 ^ 32 = omega (arith, ints) in
+    let r : registersFit (rowOf (i .operation) .format) i ≡ true =
+      ap (λ (x : Row). registersFit (x .format) i) (sym h) ∙ sym (c .registers-fit .ensures) ∙ c .if-not-registers-fit .left in
+    let e : c .lay .result ≡ layOf (rowOf (i .operation)) i = c .lay .ensures ∙ ap (λ (x : Row). layOf x i) h in
+    subst Whole (sym e) (lay-whole (i .operation) i (ofZ w32 (i .immediate)) u r)
+
+pub returns : need.returns
+returns c =
+    let i = c .args .instruction in
+    let k = rowOf (i .operation) in
+    let h = c .row-of-row .ensures in
+    let t : SFits w32 (i .immediate) = search needs in
+    let r : registersFit (k .format) i ≡ true =
+      ap (λ (x : Row). registersFit (x .format) i) (sym h) ∙ sym (c .registers-fit .ensures) ∙ c .if-not-registers-fit .left in
+    let m-fits = simp toZ-ofZ at (c .immediate-fits .ensures) in
+    let m : immediateFits (k .format) (i .immediate) ≡ true =
+      ap (λ (x : Row). immediateFits (x .format) (i .immediate)) (sym h) ∙ sym m-fits ∙ c .if-not-immediate-fits .left in
+    let e : c .join .result ≡ joined (layOf k i) = c .join .ensures ∙ ap joined (c .lay .ensures ∙ ap (λ (x : Row). layOf x i) h) in
+    record { value = simp (r, m, e); back = ap readWord e ∙ write-reads i t r m; one = one-instruction }
