@@ -1,0 +1,8 @@
+pub mod Causes
+pub mod Classes
+pub mod Faults
+pub mod Programs
+pub mod Records
+pub mod States
+pub mod Decode
+pub mod Step

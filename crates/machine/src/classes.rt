@@ -1,0 +1,36 @@
+// The classes of instructions that the units under a core serve.
+ghost use mathlib.Core.Path.{_≡_};
+ghost use Rattle.machine.specs.Classes.{serves, everyClass};
+use isa::operation::Class;
+
+#[derive(Clone, Copy, PartialEq, Eq, Debug)]
+pub struct Classes {
+    pub plain: bool,
+    pub multiply: bool,
+    pub divide: bool,
+    pub transfer: bool,
+}
+
+impl Classes {
+    pub fn all() -> Classes
+        ensures { λ r. ⌜ r ≡ everyClass ⌝ }
+    {
+        Classes {
+            plain: true,
+            multiply: true,
+            divide: true,
+            transfer: true,
+        }
+    }
+
+    pub fn has(self, class: Class) -> bool
+        ensures { λ r. ⌜ r ≡ serves self class ⌝ }
+    {
+        match class {
+            Class::Plain => self.plain,
+            Class::Multiply => self.multiply,
+            Class::Divide => self.divide,
+            Class::Transfer => self.transfer,
+        }
+    }
+}

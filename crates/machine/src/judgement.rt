@@ -1,0 +1,11 @@
+// What an instruction does to the state of the machine.
+use crate::cause::Cause;
+use crate::cause::CauseDebug;
+
+#[derive(Clone, Copy, Debug)]
+pub enum Judgement {
+    Trap(Cause),
+    // MRET
+    Return,
+    Write { rd: u8, value: u32, next: u32 },
+}
