@@ -6,3 +6,4 @@ pub mod Records
 pub mod States
 pub mod Decode
 pub mod Step
+pub mod Laws

@@ -4,6 +4,7 @@ ghost use Rattle.machine.specs.Causes.{externalInterrupt};
 ghost use Rattle.machine.specs.Classes.{serves};
 ghost use Rattle.machine.specs.States.{withRegister};
 ghost use lib.ListN.{getD};
+ghost use Rattle.machine.specs.Laws.{StepLaw};
 ghost use Rattle.machine.specs.Step.{judgedOutcome, judged, judgementOf, entered, returned, written, settled, applied, fetched, wordOr0, step};
 use crate::cause::Cause;
 use crate::classes::Classes;
@@ -158,6 +159,7 @@ impl Machine {
     pub fn step(&mut self, served: Classes, line: bool) -> Record
         ensures state { λ _. ⌜ now (self .exit) ≡ step (serves served) line (now (self .entry)) .0 ⌝ }
         ensures answer { λ r. ⌜ r ≡ step (serves served) line (now (self .entry)) .1 ⌝ }
+        ensures law { λ r. ⌜ StepLaw (serves served) (now (self .entry)) r (now (self .exit)) ⌝ }
     {
         let word = self.fetch();
         let judgement = self.judge(decode(served, word));
