@@ -7,3 +7,4 @@ pub mod States
 pub mod Decode
 pub mod Step
 pub mod Laws
+pub mod Cases
