@@ -3,6 +3,9 @@ ghost use mathlib.Core.Path.{_≡_};
 ghost use Rattle.std.specs.Vec.{made};
 ghost use Rattle.std.specs.declared.result.Result.the-variants.{Ok};
 ghost use Rattle.isa.specs.Words.{readWord, writeWord, writeFaultNumber, illegalWordNumber, OneWord, OneInstruction};
+ghost use Rattle.std.specs.declared.option.Option.the-variants.{Some};
+ghost use Rattle.isa.specs.Refusals.{writeFaultText, illegalWordText};
+use std::fmt;
 use crate::fields;
 use crate::formats;
 use crate::instruction::Instruction;
@@ -27,6 +30,14 @@ impl IllegalWord {
     }
 }
 
+pub impl fmt::Display for IllegalWord as IllegalWordDisplay {
+    ghost shown = { λ e. Some (illegalWordText e) };
+
+    fn fmt<W: fmt::Write>(&self, f: &mut fmt::Formatter<W>) -> fmt::Result {
+        f.write_str("22 illegal word")
+    }
+}
+
 impl WriteFault {
     pub fn number(self) -> u8
         ensures { λ r. ⌜ r ≡ writeFaultNumber self ⌝ }
@@ -34,6 +45,17 @@ impl WriteFault {
         match self {
             WriteFault::BadRegister => 20,
             WriteFault::BadImmediate => 21,
+        }
+    }
+}
+
+pub impl fmt::Display for WriteFault as WriteFaultDisplay {
+    ghost shown = { λ e. Some (writeFaultText e) };
+
+    fn fmt<W: fmt::Write>(&self, f: &mut fmt::Formatter<W>) -> fmt::Result {
+        match self {
+            WriteFault::BadRegister => f.write_str("20 bad register"),
+            WriteFault::BadImmediate => f.write_str("21 bad immediate"),
         }
     }
 }
