@@ -5,11 +5,11 @@ ghost use Rattle.std.specs.declared.result.Result.the-variants.{Ok};
 ghost use Rattle.isa.specs.Words.{readWord, writeWord, writeFaultNumber, illegalWordNumber, OneWord, OneInstruction};
 ghost use Rattle.std.specs.declared.option.Option.the-variants.{Some};
 ghost use Rattle.isa.specs.Refusals.{writeFaultText, illegalWordText};
-use std::fmt;
 use crate::fields;
 use crate::formats;
 use crate::instruction::Instruction;
 use crate::table;
+use std::fmt;
 
 #[derive(Clone, Copy, PartialEq, Eq, Debug)]
 pub struct IllegalWord {
@@ -87,4 +87,43 @@ pub fn write(instruction: Instruction) -> Result<u32, WriteFault>
         return Err(WriteFault::BadImmediate);
     }
     Ok(fields::join(formats::lay(row, instruction)))
+}
+
+#[cfg(test)]
+mod tests {
+    use super::*;
+    use crate::instruction::InstructionPartialEq;
+    use crate::operation::Operation;
+    use std::test::*;
+
+    fn addi(immediate: i32) -> Instruction {
+        Instruction {
+            operation: Operation::Addi,
+            rd: 1,
+            rs1: 0,
+            rs2: 0,
+            immediate,
+        }
+    }
+
+    #[test]
+    fn immediates_of_addi() -> Result<(), Fail> {
+        check(read(0x0050_0093) == Ok(addi(5)))?;
+        check(write(addi(2047)) == Ok(0x7ff0_0093))?;
+        check(write(addi(2048)) == Err(WriteFault::BadImmediate))
+    }
+
+    #[test]
+    fn funct3_tells_mul_from_an_illegal_word() -> Result<(), Fail> {
+        let mul = Instruction {
+            operation: Operation::Mul,
+            rd: 3,
+            rs1: 1,
+            rs2: 2,
+            immediate: 0,
+        };
+        check(read(0x0220_81b3) == Ok(mul))?;
+        check(write(mul) == Ok(0x0220_81b3))?;
+        check(read(0x0220_91b3) == Err(IllegalWord { word: 0x0220_91b3 }))
+    }
 }

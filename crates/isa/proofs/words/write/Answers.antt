@@ -29,7 +29,7 @@ join-requires c κs =
     let t : SFits w32 (i .immediate) = search needs in
     let u : ofZ w32 (i .immediate) < 2 ^ 32 = omega (arith, ints) in
     let r : registersFit (rowOf (i .operation) .format) i ≡ true =
-      ap (λ (x : Row). registersFit (x .format) i) (sym h) ∙ sym (c .registers-fit .ensures) ∙ c .if-not-registers-fit .left in
+    ap (λ (x : Row). registersFit (x .format) i) (sym h) ∙ sym (c .registers-fit .ensures) ∙ c .if-not-registers-fit .left in
     let e : c .lay .result ≡ layOf (rowOf (i .operation)) i = c .lay .ensures ∙ ap (λ (x : Row). layOf x i) h in
     subst Whole (sym e) (lay-whole (i .operation) i (ofZ w32 (i .immediate)) u r)
 
@@ -40,9 +40,9 @@ returns c =
     let h = c .row-of-row .ensures in
     let t : SFits w32 (i .immediate) = search needs in
     let r : registersFit (k .format) i ≡ true =
-      ap (λ (x : Row). registersFit (x .format) i) (sym h) ∙ sym (c .registers-fit .ensures) ∙ c .if-not-registers-fit .left in
+    ap (λ (x : Row). registersFit (x .format) i) (sym h) ∙ sym (c .registers-fit .ensures) ∙ c .if-not-registers-fit .left in
     let m-fits = simp toZ-ofZ at (c .immediate-fits .ensures) in
     let m : immediateFits (k .format) (i .immediate) ≡ true =
-      ap (λ (x : Row). immediateFits (x .format) (i .immediate)) (sym h) ∙ sym m-fits ∙ c .if-not-immediate-fits .left in
+    ap (λ (x : Row). immediateFits (x .format) (i .immediate)) (sym h) ∙ sym m-fits ∙ c .if-not-immediate-fits .left in
     let e : c .join .result ≡ joined (layOf k i) = c .join .ensures ∙ ap joined (c .lay .ensures ∙ ap (λ (x : Row). layOf x i) h) in
     record { value = simp (r, m, e); back = ap readWord e ∙ write-reads i t r m; one = one-instruction }
