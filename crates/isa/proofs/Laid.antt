@@ -64,10 +64,7 @@ lay-held B k o p w e =
     let x-5 = field 6 5 (q * 4 + a * 2 + d) b (m * 2) u (omega arith) (omega arith) (omega arith) in
     let x-1 = field 4 1 (q * 2 ^ 8 + a * 2 ^ 7 + d * 2 ^ 6 + b) m 0 u (omega arith) (omega arith) (omega arith) in
     same p _ _ _ _ _ _ (grind (arith, tells)) (omega arith) (grind (arith, tells)) refl refl (omega arith)
-lay-held U k o p w e =
-    let n = p .funct7 * 2 ^ 13 + p .rs2 * 2 ^ 8 + p .rs1 * 2 ^ 3 + p .funct3 in
-    let u : ofZ w32 (pos n) ≡ n = omega (arith, ints) in
-    same p _ _ _ _ _ _ (grind (arith, tells)) refl (rw u (omega arith)) (rw u (omega arith)) (rw u (omega arith)) (rw u (omega arith))
+lay-held U k o p w e = same p _ _ _ _ _ _ (grind (arith, tells)) refl (omega arith) (omega arith) (omega arith) (omega arith)
 lay-held J k o p w e =
     let a = p .funct7 / 2 ^ 6 in
     let g = p .rs1 in
