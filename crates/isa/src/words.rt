@@ -1,9 +1,9 @@
 // Instruction words read and written.
 ghost use mathlib.Core.Path.{_≡_};
 ghost use Rattle.std.specs.Vec.{made};
+ghost use Rattle.std.specs.declared.option.Option.the-variants.{Some};
 ghost use Rattle.std.specs.declared.result.Result.the-variants.{Ok};
 ghost use Rattle.isa.specs.Words.{readWord, writeWord, writeFaultNumber, illegalWordNumber, OneWord, OneInstruction};
-ghost use Rattle.std.specs.declared.option.Option.the-variants.{Some};
 ghost use Rattle.isa.specs.Refusals.{writeFaultText, illegalWordText};
 use crate::fields;
 use crate::formats;
