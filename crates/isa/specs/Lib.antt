@@ -3,4 +3,5 @@ pub mod Fields
 pub mod Table
 pub mod Formats
 pub mod Words
+pub mod Refusals
 pub mod Outcomes
