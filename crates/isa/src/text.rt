@@ -88,3 +88,40 @@ pub impl fmt::Display for Instruction as InstructionDisplay {
         }
     }
 }
+
+#[cfg(test)]
+mod tests {
+    use super::*;
+    use std::test::*;
+
+    fn check_text(rt: &LibcRuntime, instruction: Instruction, text: &str) -> Result<(), Fail> {
+        let shown = instruction.to_string(rt.alloc())?;
+        check_eq(shown.as_str(), text)
+    }
+
+    #[test]
+    fn assembler_syntax(rt: LibcRuntime) -> Result<(), Fail> {
+        check_text(
+            &rt,
+            Instruction {
+                operation: Operation::Addi,
+                rd: 1,
+                rs1: 0,
+                rs2: 0,
+                immediate: 5,
+            },
+            "addi x1, x0, 5",
+        )?;
+        check_text(
+            &rt,
+            Instruction {
+                operation: Operation::Beq,
+                rd: 0,
+                rs1: 1,
+                rs2: 2,
+                immediate: -8,
+            },
+            "beq x1, x2, -8",
+        )
+    }
+}
