@@ -5,3 +5,4 @@ pub mod Formats
 pub mod Words
 pub mod Refusals
 pub mod Outcomes
+pub mod Text
