@@ -11,12 +11,12 @@ use crate::instruction::Instruction;
 use crate::table;
 use std::fmt;
 
-#[derive(Clone, Copy, PartialEq, Eq, Debug)]
+#[derive(Clone, Copy)]
 pub struct IllegalWord {
     pub word: u32,
 }
 
-#[derive(Clone, Copy, PartialEq, Eq, Debug)]
+#[derive(Clone, Copy)]
 pub enum WriteFault {
     BadRegister,
     BadImmediate,
