@@ -3,5 +3,4 @@ ghost use Rattle.machine.specs.Cases.{WorkedCases};
 
 pub fn worked_cases()
     ensures { λ _. ⌜ WorkedCases ⌝ }
-{
-}
+{}

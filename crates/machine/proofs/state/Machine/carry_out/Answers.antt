@@ -20,6 +20,6 @@ returns c =
       state = after;
       answer = answer;
       law =
-        subst (λ (r : Record). StepLaw s m r (c .apply .last .self)) (sym answer)
-        (subst (λ (n : Machine). StepLaw s m (step s line m .1) n) (sym after) law);
+          subst (λ (r : Record). StepLaw s m r (c .apply .last .self)) (sym answer)
+          (subst (λ (n : Machine). StepLaw s m (step s line m .1) n) (sym after) law);
     }
