@@ -7,6 +7,7 @@ use Rattle.refusal.specs.declared.LoadFault.{LoadFault}
 use Rattle.refusal.specs.declared.LoadFault.the-variants.{Overlong, Skew}
 use Rattle.refusal.specs.declared.SkewedAddress.{SkewedAddress}
 use Rattle.refusal.specs.declared.NoRegister.{NoRegister}
+use Rattle.refusal.specs.declared.NoRoom.{NoRoom}
 use Rattle.refusal.specs.declared.WriteFault.{WriteFault}
 use Rattle.refusal.specs.declared.WriteFault.the-variants.{BadRegister, BadImmediate}
 use Rattle.refusal.specs.declared.IllegalWord.{IllegalWord}
@@ -20,6 +21,9 @@ skewLine e = codes "2 skew"
 
 abbrev pub noRegisterLine : NoRegister → List ℕ
 noRegisterLine e = codes "3 no register"
+
+abbrev pub noRoomLine : NoRoom → List ℕ
+noRoomLine e = codes "15 no room"
 
 abbrev pub writeFaultLine : WriteFault → List ℕ
 writeFaultLine BadRegister = codes "20 bad register"

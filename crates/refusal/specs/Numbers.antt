@@ -5,6 +5,7 @@ use Rattle.refusal.specs.declared.LoadFault.{LoadFault}
 use Rattle.refusal.specs.declared.LoadFault.the-variants.{Overlong, Skew}
 use Rattle.refusal.specs.declared.SkewedAddress.{SkewedAddress}
 use Rattle.refusal.specs.declared.NoRegister.{NoRegister}
+use Rattle.refusal.specs.declared.NoRoom.{NoRoom}
 use Rattle.refusal.specs.declared.WriteFault.{WriteFault}
 use Rattle.refusal.specs.declared.WriteFault.the-variants.{BadRegister, BadImmediate}
 use Rattle.refusal.specs.declared.IllegalWord.{IllegalWord}
@@ -21,6 +22,10 @@ skewNumber e = 2
 -- a register number above 31
 abbrev pub noRegisterNumber : NoRegister → ℕ
 noRegisterNumber e = 3
+
+-- a unit's take: it has no room for the job
+abbrev pub noRoomNumber : NoRoom → ℕ
+noRoomNumber e = 15
 
 -- writing a word: a register that the operation lacks or that does not exist; then an immediate that it cannot hold
 abbrev pub writeFaultNumber : WriteFault → ℕ

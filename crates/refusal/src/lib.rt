@@ -1,8 +1,8 @@
 // Every refusal, with its number and the line that names it.
 ghost use mathlib.Core.Path.{_≡_};
 ghost use Rattle.std.specs.declared.option.Option.the-variants.{Some};
-ghost use Rattle.refusal.specs.Numbers.{loadFaultNumber, skewNumber, noRegisterNumber, writeFaultNumber, illegalWordNumber};
-ghost use Rattle.refusal.specs.Lines.{loadFaultLine, skewLine, noRegisterLine, writeFaultLine, illegalWordLine};
+ghost use Rattle.refusal.specs.Numbers.{loadFaultNumber, skewNumber, noRegisterNumber, noRoomNumber, writeFaultNumber, illegalWordNumber};
+ghost use Rattle.refusal.specs.Lines.{loadFaultLine, skewLine, noRegisterLine, noRoomLine, writeFaultLine, illegalWordLine};
 use std::fmt;
 
 // Load was given a program that it does not take.
@@ -77,6 +77,26 @@ pub impl fmt::Display for NoRegister as NoRegisterDisplay {
 
     fn fmt<W: fmt::Write>(&self, f: &mut fmt::Formatter<W>) -> fmt::Result {
         f.write_str("3 no register")
+    }
+}
+
+// A unit has no room for a job.
+#[derive(Clone, Copy)]
+pub struct NoRoom;
+
+impl NoRoom {
+    pub fn number(self) -> u8
+        ensures { λ r. ⌜ r ≡ noRoomNumber self ⌝ }
+    {
+        15
+    }
+}
+
+pub impl fmt::Display for NoRoom as NoRoomDisplay {
+    ghost shown = { λ e. Some (noRoomLine e) };
+
+    fn fmt<W: fmt::Write>(&self, f: &mut fmt::Formatter<W>) -> fmt::Result {
+        f.write_str("15 no room")
     }
 }
 
