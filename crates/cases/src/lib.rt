@@ -1,4 +1,11 @@
-// Examples as tests of the crates below: a crate with tests is proved twice, so they stand in one of their own.
+// The worked cases: as one statement about the definitions, and as tests of the code.
+ghost use Rattle.cases.specs.Cases.{WorkedCases};
+
+pub fn worked_cases()
+    ensures { λ _. ⌜ WorkedCases ⌝ }
+{
+}
+
 #[cfg(test)]
 mod instructions {
     use execute::outcome;
@@ -107,10 +114,10 @@ mod machine_steps {
         let mut machine = Machine::new();
         check(machine.load(&PRODUCT, 0, 0).is_ok())?;
         for _ in 0..3 {
-            let _ = machine.step(Classes::all(), false);
+            let _ = machine.step(Classes::ALL, false);
         }
         check_eq(machine.register(3).unwrap_or(0), 35)?;
-        let record = machine.step(Classes::all(), false);
+        let record = machine.step(Classes::ALL, false);
         check(matches!(record.outcome, Retirement::Trapped))?;
         check_eq(record.value, 1)?;
         check_eq(machine.trap_state().mepc, 12)
@@ -122,7 +129,7 @@ mod machine_steps {
         check(machine.load(&PRODUCT, 8, 0).is_ok())?;
         let served = Classes {
             multiply: false,
-            ..Classes::all()
+            ..Classes::ALL
         };
         let record = machine.step(served, false);
         check(matches!(record.outcome, Retirement::Trapped))?;
@@ -133,7 +140,7 @@ mod machine_steps {
     fn an_interrupt_follows_the_instruction() -> Result<(), Fail> {
         let mut machine = Machine::new();
         check(machine.load(&PRODUCT, 0, 0).is_ok())?;
-        let record = machine.step(Classes::all(), true);
+        let record = machine.step(Classes::ALL, true);
         check(matches!(record.outcome, Retirement::Interrupted))?;
         check_eq(record.next, 0)?;
         check_eq(machine.trap_state().mepc, 4)?;
