@@ -3,8 +3,7 @@ ghost use Rattle.cases.specs.Cases.{WorkedCases};
 
 pub fn worked_cases()
     ensures { λ _. ⌜ WorkedCases ⌝ }
-{
-}
+{}
 
 #[cfg(test)]
 mod instructions {
