@@ -1,0 +1,80 @@
+// A line of program text: a word in hex digits, or nothing, with a comment from `#` on.
+ghost use mathlib.Core.Path.{_≡_};
+ghost use Rattle.console.specs.Lines.{blank, uncommented, trimmedFront, trimmedBack, lineText, hexWord, textWord, lineWord};
+use crate::digits;
+
+#[derive(Clone, Copy, PartialEq, Eq, Debug)]
+pub enum WordFault {
+    NotHex(u8),
+    TooWide,
+    NoDigits,
+}
+
+fn is_blank(byte: u8) -> bool
+    ensures { λ r. ⌜ r ≡ blank byte ⌝ }
+{
+    byte == b' ' || byte == b'\t' || byte == b'\r'
+}
+
+fn before_comment(line: &[u8]) -> &[u8]
+    ensures { λ r. ⌜ now r ≡ uncommented (now (line .entry)) ⌝ }
+{
+    for (i, byte) in line.iter().enumerate() {
+        if *byte == b'#' {
+            return &line[0..i];
+        }
+    }
+    line
+}
+
+fn trim_front(text: &[u8]) -> &[u8]
+    ensures { λ r. ⌜ now r ≡ trimmedFront (now (text .entry)) ⌝ }
+{
+    let mut start = 0;
+    while start < text.len() && is_blank(text[start]) {
+        start += 1;
+    }
+    &text[start..]
+}
+
+fn trim_back(text: &[u8]) -> &[u8]
+    ensures { λ r. ⌜ now r ≡ trimmedBack (now (text .entry)) ⌝ }
+{
+    let mut end = text.len();
+    while end > 0 && is_blank(text[end - 1]) {
+        end -= 1;
+    }
+    &text[0..end]
+}
+
+fn parse_hex_word(text: &[u8]) -> Result<u32, WordFault>
+    ensures { λ r. ⌜ r ≡ hexWord (now (text .entry)) ⌝ }
+{
+    if text.is_empty() {
+        return Err(WordFault::NoDigits);
+    }
+    if let Some(byte) = digits::first_stranger(16, text) {
+        return Err(WordFault::NotHex(byte));
+    }
+    if text.len() > 8 {
+        return Err(WordFault::TooWide);
+    }
+    match digits::value(16, text) {
+        Some(word) if word <= 0xffff_ffff => Ok(word as u32),
+        _ => Err(WordFault::TooWide),
+    }
+}
+
+// None for a line with no word on it.
+pub fn parse_line(line: &[u8]) -> Result<Option<u32>, WordFault>
+    ensures { λ r. ⌜ r ≡ lineWord (now (line .entry)) ⌝ }
+{
+    let text = trim_back(trim_front(before_comment(line)));
+    if text.is_empty() {
+        return Ok(None);
+    }
+    match parse_hex_word(digits::after_hex_mark(text).unwrap_or(text)) {
+        Ok(word) => Ok(Some(word)),
+        Err(fault) => Err(fault),
+    }
+}
