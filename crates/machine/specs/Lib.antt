@@ -6,3 +6,5 @@ pub mod Records
 pub mod States
 pub mod Decode
 pub mod Step
+pub mod Laws
+pub mod Cases

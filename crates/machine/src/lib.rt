@@ -1,5 +1,6 @@
 // The sequential machine: one instruction after another, as programmers see the core.
 //
+//   cases     the worked cases, as one statement about the definitions
 //   cause     why an instruction traps
 //   classes   the classes of instructions that the units serve
 //   fault     what load, reads and writes refuse
@@ -9,6 +10,7 @@
 //   decode    what the word at pc asks for
 //   judgement what an instruction does to the state
 //   step      one step: judge the instruction at pc, then apply the judgement to the state
+pub mod cases;
 pub mod cause;
 pub mod classes;
 pub mod decode;

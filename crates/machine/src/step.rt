@@ -2,7 +2,9 @@
 ghost use mathlib.Core.Path.{_≡_};
 ghost use Rattle.machine.specs.Causes.{externalInterrupt};
 ghost use Rattle.machine.specs.Classes.{serves};
-ghost use Rattle.machine.specs.States.{registerOf, withRegister};
+ghost use Rattle.machine.specs.States.{withRegister};
+ghost use lib.ListN.{getD};
+ghost use Rattle.machine.specs.Laws.{StepLaw};
 ghost use Rattle.machine.specs.Step.{judgedOutcome, judged, judgementOf, entered, returned, written, settled, applied, fetched, wordOr0, step};
 use crate::cause::Cause;
 use crate::classes::Classes;
@@ -14,7 +16,6 @@ use crate::record::Retirement;
 use crate::state::Machine;
 use crate::state::TrapState;
 use isa::outcome::Outcome;
-use isa::outcome::outcome;
 
 const EXTERNAL_INTERRUPT: u32 = 0x8000_000b;
 
@@ -29,17 +30,31 @@ pub fn judge_outcome(rd: u8, outcome: Option<Outcome>) -> Judgement
     }
 }
 
-impl Machine {
-    fn operand(&self, register: u8) -> u32
-        ensures { λ r. ⌜ r ≡ registerOf (now (self .entry)) register ⌝ }
-    {
-        if register < 32 {
-            self.registers[usize::from(register)]
-        } else {
-            0
-        }
+// No word has a register above 31: there is nothing to read or write there.
+fn operand(registers: &[u32], register: u8) -> u32
+    ensures { λ r. ⌜ r ≡ getD (now (registers .entry)) register 0 ⌝ }
+{
+    let index = usize::from(register);
+    if index < registers.len() {
+        registers[index]
+    } else {
+        0
     }
+}
 
+fn write_destination(registers: &mut [u32], rd: u8, value: u32)
+    ensures { λ _. ⌜ now (registers .exit) ≡ withRegister rd value (now (registers .entry)) ⌝ }
+{
+    if rd == 0 {
+        return;
+    }
+    let index = usize::from(rd);
+    if index < registers.len() {
+        registers[index] = value;
+    }
+}
+
+impl Machine {
     fn fetch(&self) -> Option<u32>
         ensures { λ r. ⌜ r ≡ fetched (now (self .entry)) ⌝ }
     {
@@ -53,9 +68,9 @@ impl Machine {
             Decoded::Trap(cause) => Judgement::Trap(cause),
             Decoded::Return => Judgement::Return,
             Decoded::Work(instruction) => {
-                let a = self.operand(instruction.rs1);
-                let b = self.operand(instruction.rs2);
-                judge_outcome(instruction.rd, outcome(instruction, self.pc, a, b))
+                let a = operand(&self.registers, instruction.rs1);
+                let b = operand(&self.registers, instruction.rs2);
+                judge_outcome(instruction.rd, instruction.outcome(self.pc, a, b))
             }
         }
     }
@@ -84,9 +99,7 @@ impl Machine {
     fn write_result(&mut self, rd: u8, value: u32, next: u32)
         ensures { λ _. ⌜ now (self .exit) ≡ written rd value next (now (self .entry)) ⌝ }
     {
-        if rd != 0 && rd < 32 {
-            self.registers[usize::from(rd)] = value;
-        }
+        write_destination(&mut self.registers, rd, value);
         self.pc = next;
     }
 
@@ -146,6 +159,7 @@ impl Machine {
     pub fn step(&mut self, served: Classes, line: bool) -> Record
         ensures state { λ _. ⌜ now (self .exit) ≡ step (serves served) line (now (self .entry)) .0 ⌝ }
         ensures answer { λ r. ⌜ r ≡ step (serves served) line (now (self .entry)) .1 ⌝ }
+        ensures law { λ r. ⌜ StepLaw (serves served) (now (self .entry)) r (now (self .exit)) ⌝ }
     {
         let word = self.fetch();
         let judgement = self.judge(decode(served, word));
