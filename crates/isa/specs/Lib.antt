@@ -4,3 +4,4 @@ pub mod Table
 pub mod Formats
 pub mod Words
 pub mod Outcomes
+pub mod Text

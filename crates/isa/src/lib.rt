@@ -4,6 +4,7 @@
 //   instruction  an operation with its registers and its immediate
 //   words        words read and written
 //   outcome      what a classed instruction works out
+//   text         instructions in assembler syntax
 //   fields, table, formats: a word's fields, the rows of the manual's tables, the seven formats
 mod fields;
 mod formats;
@@ -11,4 +12,5 @@ pub mod instruction;
 pub mod operation;
 pub mod outcome;
 mod table;
+pub mod text;
 pub mod words;

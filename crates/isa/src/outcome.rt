@@ -184,3 +184,53 @@ impl Instruction {
         })
     }
 }
+
+#[cfg(test)]
+mod tests {
+    use super::*;
+    use std::test::*;
+
+    fn plain(operation: Operation, immediate: i32) -> Instruction {
+        Instruction {
+            operation,
+            rd: 1,
+            rs1: 2,
+            rs2: 3,
+            immediate,
+        }
+    }
+
+    fn done(value: u32, next: u32) -> Option<Outcome> {
+        Some(Outcome::Done { value, next })
+    }
+
+    #[test]
+    fn division_by_zero() -> Result<(), Fail> {
+        check_eq(
+            plain(Operation::Div, 0).outcome(0, 7, 0),
+            done(0xFFFF_FFFF, 4),
+        )?;
+        check_eq(plain(Operation::Rem, 0).outcome(0, 7, 0), done(7, 4))
+    }
+
+    #[test]
+    fn division_that_overflows() -> Result<(), Fail> {
+        check_eq(
+            plain(Operation::Div, 0).outcome(0, 0x8000_0000, 0xFFFF_FFFF),
+            done(0x8000_0000, 4),
+        )?;
+        check_eq(
+            plain(Operation::Rem, 0).outcome(0, 0x8000_0000, 0xFFFF_FFFF),
+            done(0, 4),
+        )
+    }
+
+    #[test]
+    fn jumps() -> Result<(), Fail> {
+        check_eq(plain(Operation::Jal, 8).outcome(0, 0, 0), done(4, 8))?;
+        check_eq(
+            plain(Operation::Jal, 2).outcome(0, 0, 0),
+            Some(Outcome::Misaligned),
+        )
+    }
+}
