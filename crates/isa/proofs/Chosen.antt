@@ -1,12 +1,12 @@
 -- The row that is chosen for a word's fields.
 -- Assumes nothing.
-use Prim.Native.Nat.{ℕ, _^_, _<_}
+use Prim.Native.Nat.{ℕ, _^_}
 use mathlib.Core.Path.{_≡_, refl}
-use mathlib.Core.Bool.{Bool, true, false, cond}
+use mathlib.Core.Bool.{Bool, true, _&&_}
 use mathlib.Core.List.{List, [], _∷_}
 use native.Mathlib.Omega.{arith}
-use lib.Dec.{lit<}
-use Rattle.std.specs.declared.option.Option.the-variants.{Some, None}
+use lib.Dec.{ltb}
+use Rattle.std.specs.declared.option.Option.the-variants.{Some}
 use Rattle.std.proofs.shelf.Ways.{tells}
 use Rattle.isa.specs.declared.instruction.Instruction.{Instruction}
 use Rattle.isa.specs.declared.fields.Fields.{Fields}
@@ -19,72 +19,74 @@ use Rattle.isa.specs.Fields.{Whole}
 use Rattle.isa.specs.Table.{rowOf, operations, fitsRow, firstOf, chosen}
 use Rattle.isa.specs.Formats.{laid, registersFit}
 
+-- what is first to pass a test passes it
 first-passes : (f : Operation → Bool) (xs : List Operation) (o : Operation) → firstOf f xs ≡ Some o → f o ≡ true
 first-passes f [] o e = grind arith
 first-passes f (x ∷ xs) o e = let ih = first-passes f xs o in grind arith
 
--- what is chosen fits
+-- the row that is chosen for the fields fits them
 pub chosen-fits : (p : Fields) (o : Operation) → chosen p ≡ Some o → fitsRow p (rowOf o) ≡ true
 chosen-fits p o e = first-passes (λ x. fitsRow p (rowOf x)) operations o e
 
--- each field that a row fixes is within its bits
-abbrev RowWhole : Row → Type 0
-RowWhole k = (k .opcode < 2 ^ 7) × (k .funct3 < 2 ^ 3) × (k .funct7 < 2 ^ 7) × (k .rs2 < 2 ^ 5)
+-- each value of a row is within the bits of its field
+abbrev narrow : Row → Bool
+narrow k = ltb (k .opcode) (2 ^ 7) && (ltb (k .funct3) (2 ^ 3) && (ltb (k .funct7) (2 ^ 7) && ltb (k .rs2) (2 ^ 5)))
 
--- what the table has to be: its values fit their fields, and what is laid out by a row is chosen for that row and no other
+-- what the table has to be: rows of narrow values, each of them chosen for what is laid out by it
 pub record Sound (o : Operation) : Type 0 where
-  pub whole : RowWhole (rowOf o)
+  pub fits : narrow (rowOf o) ≡ true
   pub found : (i : Instruction) (u : ℕ) → chosen (laid (rowOf o .format) (rowOf o) i u) ≡ Some o
 
--- each row passes by computation
+-- antt computes both at each row
 pub sound : (o : Operation) → Sound o
-sound Lui = record { whole = (lit< tt, lit< tt, lit< tt, lit< tt); found = λ i u. refl }
-sound Auipc = record { whole = (lit< tt, lit< tt, lit< tt, lit< tt); found = λ i u. refl }
-sound Jal = record { whole = (lit< tt, lit< tt, lit< tt, lit< tt); found = λ i u. refl }
-sound Jalr = record { whole = (lit< tt, lit< tt, lit< tt, lit< tt); found = λ i u. refl }
-sound Beq = record { whole = (lit< tt, lit< tt, lit< tt, lit< tt); found = λ i u. refl }
-sound Bne = record { whole = (lit< tt, lit< tt, lit< tt, lit< tt); found = λ i u. refl }
-sound Blt = record { whole = (lit< tt, lit< tt, lit< tt, lit< tt); found = λ i u. refl }
-sound Bge = record { whole = (lit< tt, lit< tt, lit< tt, lit< tt); found = λ i u. refl }
-sound Bltu = record { whole = (lit< tt, lit< tt, lit< tt, lit< tt); found = λ i u. refl }
-sound Bgeu = record { whole = (lit< tt, lit< tt, lit< tt, lit< tt); found = λ i u. refl }
-sound Addi = record { whole = (lit< tt, lit< tt, lit< tt, lit< tt); found = λ i u. refl }
-sound Slti = record { whole = (lit< tt, lit< tt, lit< tt, lit< tt); found = λ i u. refl }
-sound Sltiu = record { whole = (lit< tt, lit< tt, lit< tt, lit< tt); found = λ i u. refl }
-sound Xori = record { whole = (lit< tt, lit< tt, lit< tt, lit< tt); found = λ i u. refl }
-sound Ori = record { whole = (lit< tt, lit< tt, lit< tt, lit< tt); found = λ i u. refl }
-sound Andi = record { whole = (lit< tt, lit< tt, lit< tt, lit< tt); found = λ i u. refl }
-sound Slli = record { whole = (lit< tt, lit< tt, lit< tt, lit< tt); found = λ i u. refl }
-sound Srli = record { whole = (lit< tt, lit< tt, lit< tt, lit< tt); found = λ i u. refl }
-sound Srai = record { whole = (lit< tt, lit< tt, lit< tt, lit< tt); found = λ i u. refl }
-sound Add = record { whole = (lit< tt, lit< tt, lit< tt, lit< tt); found = λ i u. refl }
-sound Sub = record { whole = (lit< tt, lit< tt, lit< tt, lit< tt); found = λ i u. refl }
-sound Sll = record { whole = (lit< tt, lit< tt, lit< tt, lit< tt); found = λ i u. refl }
-sound Slt = record { whole = (lit< tt, lit< tt, lit< tt, lit< tt); found = λ i u. refl }
-sound Sltu = record { whole = (lit< tt, lit< tt, lit< tt, lit< tt); found = λ i u. refl }
-sound Xor = record { whole = (lit< tt, lit< tt, lit< tt, lit< tt); found = λ i u. refl }
-sound Srl = record { whole = (lit< tt, lit< tt, lit< tt, lit< tt); found = λ i u. refl }
-sound Sra = record { whole = (lit< tt, lit< tt, lit< tt, lit< tt); found = λ i u. refl }
-sound Or = record { whole = (lit< tt, lit< tt, lit< tt, lit< tt); found = λ i u. refl }
-sound And = record { whole = (lit< tt, lit< tt, lit< tt, lit< tt); found = λ i u. refl }
-sound Mul = record { whole = (lit< tt, lit< tt, lit< tt, lit< tt); found = λ i u. refl }
-sound Div = record { whole = (lit< tt, lit< tt, lit< tt, lit< tt); found = λ i u. refl }
-sound Divu = record { whole = (lit< tt, lit< tt, lit< tt, lit< tt); found = λ i u. refl }
-sound Rem = record { whole = (lit< tt, lit< tt, lit< tt, lit< tt); found = λ i u. refl }
-sound Remu = record { whole = (lit< tt, lit< tt, lit< tt, lit< tt); found = λ i u. refl }
-sound Ecall = record { whole = (lit< tt, lit< tt, lit< tt, lit< tt); found = λ i u. refl }
-sound Ebreak = record { whole = (lit< tt, lit< tt, lit< tt, lit< tt); found = λ i u. refl }
-sound Mret = record { whole = (lit< tt, lit< tt, lit< tt, lit< tt); found = λ i u. refl }
+sound Lui = record { fits = refl; found = λ i u. refl }
+sound Auipc = record { fits = refl; found = λ i u. refl }
+sound Jal = record { fits = refl; found = λ i u. refl }
+sound Jalr = record { fits = refl; found = λ i u. refl }
+sound Beq = record { fits = refl; found = λ i u. refl }
+sound Bne = record { fits = refl; found = λ i u. refl }
+sound Blt = record { fits = refl; found = λ i u. refl }
+sound Bge = record { fits = refl; found = λ i u. refl }
+sound Bltu = record { fits = refl; found = λ i u. refl }
+sound Bgeu = record { fits = refl; found = λ i u. refl }
+sound Addi = record { fits = refl; found = λ i u. refl }
+sound Slti = record { fits = refl; found = λ i u. refl }
+sound Sltiu = record { fits = refl; found = λ i u. refl }
+sound Xori = record { fits = refl; found = λ i u. refl }
+sound Ori = record { fits = refl; found = λ i u. refl }
+sound Andi = record { fits = refl; found = λ i u. refl }
+sound Slli = record { fits = refl; found = λ i u. refl }
+sound Srli = record { fits = refl; found = λ i u. refl }
+sound Srai = record { fits = refl; found = λ i u. refl }
+sound Add = record { fits = refl; found = λ i u. refl }
+sound Sub = record { fits = refl; found = λ i u. refl }
+sound Sll = record { fits = refl; found = λ i u. refl }
+sound Slt = record { fits = refl; found = λ i u. refl }
+sound Sltu = record { fits = refl; found = λ i u. refl }
+sound Xor = record { fits = refl; found = λ i u. refl }
+sound Srl = record { fits = refl; found = λ i u. refl }
+sound Sra = record { fits = refl; found = λ i u. refl }
+sound Or = record { fits = refl; found = λ i u. refl }
+sound And = record { fits = refl; found = λ i u. refl }
+sound Mul = record { fits = refl; found = λ i u. refl }
+sound Div = record { fits = refl; found = λ i u. refl }
+sound Divu = record { fits = refl; found = λ i u. refl }
+sound Rem = record { fits = refl; found = λ i u. refl }
+sound Remu = record { fits = refl; found = λ i u. refl }
+sound Ecall = record { fits = refl; found = λ i u. refl }
+sound Ebreak = record { fits = refl; found = λ i u. refl }
+sound Mret = record { fits = refl; found = λ i u. refl }
 
-laid-whole : (f : Format) (k : Row) (i : Instruction) (u : ℕ) → RowWhole k → u < 2 ^ 32 → registersFit f i ≡ true → Whole (laid f k i u)
-laid-whole R k i u h l r = grind (arith, tells)
-laid-whole I k i u h l r = grind (arith, tells)
-laid-whole Shift k i u h l r = grind (arith, tells)
-laid-whole B k i u h l r = grind (arith, tells)
-laid-whole U k i u h l r = grind (arith, tells)
-laid-whole J k i u h l r = grind (arith, tells)
-laid-whole Fixed k i u h l r = grind (arith, tells)
+-- fields that are laid out are within their bits
+laid-whole : (f : Format) (k : Row) (i : Instruction) (u : ℕ) → narrow k ≡ true → registersFit f i ≡ true → Whole (laid f k i u)
+laid-whole R k i u h r = grind (arith, tells)
+laid-whole I k i u h r = grind (arith, tells)
+laid-whole Shift k i u h r = grind (arith, tells)
+laid-whole B k i u h r = grind (arith, tells)
+laid-whole U k i u h r = grind (arith, tells)
+laid-whole J k i u h r = grind (arith, tells)
+laid-whole Fixed k i u h r = grind (arith, tells)
 
-pub lay-whole : (o : Operation) (i : Instruction) (u : ℕ) → u < 2 ^ 32 → registersFit (rowOf o .format) i ≡ true
+pub lay-whole : (o : Operation) (i : Instruction) (u : ℕ) → registersFit (rowOf o .format) i ≡ true
     → Whole (laid (rowOf o .format) (rowOf o) i u)
-lay-whole o i u l r = laid-whole (rowOf o .format) (rowOf o) i u (sound o .whole) l r
+lay-whole o i u r = laid-whole (rowOf o .format) (rowOf o) i u (sound o .fits) r

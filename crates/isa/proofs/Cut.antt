@@ -1,7 +1,7 @@
 -- A word is its six fields, and six fields are a word.
 -- Assumes nothing.
 use Prim.Native.Nat.{ℕ, _+_, _*_, _/_, _%_, _^_, _<_}
-use mathlib.Core.Path.{_≡_, refl, sym, ap, _∙_}
+use mathlib.Core.Path.{_≡_}
 use native.Mathlib.Omega.{arith}
 use Rattle.std.proofs.shelf.Bits.{shr-shr}
 use Rattle.isa.specs.declared.fields.Fields.{Fields}

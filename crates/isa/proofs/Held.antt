@@ -2,28 +2,24 @@
 -- Assumes nothing.
 use Prim.Native.Nat.{ℕ, _+_, _-_, _*_, _/_, _%_, _^_, _<_, _≤_}
 use mathlib.Core.Path.{_≡_, refl, sym, ap, _∙_}
-use mathlib.Core.Bool.{Bool, true, false, cond, _&&_}
+use mathlib.Core.Bool.{true}
 use mathlib.Core.Logic.{_⊎_, inl, inr}
 use native.Mathlib.Omega.{arith}
-use lib.Dec.{eqb, ltb}
-use lib.IntN.{ℤ, pos, _-ℤ_}
-use mir.Val.{ofZ, toZ}
+use lib.Dec.{eqb}
+use lib.IntN.{ℤ, pos}
+use mir.Val.{SFits, ofZ}
 use mir.Syntax.{w32}
 use Rattle.std.proofs.shelf.Bits.{mod-pow-add}
-use Rattle.std.proofs.shelf.Signed.{ints, toZ-ofZ}
+use Rattle.std.proofs.shelf.Signed.{ints}
 use Rattle.std.proofs.shelf.Ways.{tells}
 use Rattle.std.proofs.shelf.Tests.{and-parts, eqb-true}
-use Rattle.isa.specs.declared.fields.Fields.{Fields}
-use Rattle.isa.specs.declared.operation.Operation.{Operation}
+use Rattle.isa.specs.declared.instruction.Instruction.{Instruction}
 use Rattle.isa.specs.declared.table.Row.{Row}
 use Rattle.isa.specs.declared.table.Format.{Format}
 use Rattle.isa.specs.declared.table.Format.the-variants.{R, I, Shift, B, U, J, Fixed}
-use Rattle.isa.specs.Fields.{Whole}
-use Rattle.isa.specs.Table.{fixed}
-use Rattle.isa.specs.Formats.{signed, immediateOf, held, laid, within, natural, registersFit, immediateFits}
-use mir.Val.{SFits}
-use Rattle.isa.specs.declared.instruction.Instruction.{Instruction}
+use Rattle.isa.specs.Formats.{signed, held, laid, within, natural, registersFit, immediateFits}
 
+-- the 32 bits of a number within bounds: its low bits are the number's own, and the rest copies of the sign
 signed-of : (half : ℕ) (z : ℤ) → 0 < half → half < 2 ^ 31 → within half z ≡ true
     → ((ofZ w32 z < half) × (signed half (ofZ w32 z) ≡ z))
     ⊎ ((2 ^ 32 - half ≤ ofZ w32 z) × (ofZ w32 z < 2 ^ 32) × (signed half (ofZ w32 z + 2 * half - 2 ^ 32) ≡ z))
@@ -48,6 +44,7 @@ same : (i : Instruction) (a b d : ℕ) (z : ℤ) → a ≡ i .rd → b ≡ i .rs
     → _≡_ {A = Instruction} (record { operation = i .operation; rd = a; rs1 = b; rs2 = d; immediate = z }) i
 same i a b d z ha hb hd hz = rw (ha, hb, hd, hz)
 
+-- by format: n is the number that the laid-out fields hold, and it is the immediate's low bits
 pub held-laid : (f : Format) (k : Row) (i : Instruction) → SFits w32 (i .immediate) → registersFit f i ≡ true → immediateFits f (i .immediate) ≡ true
     → held f (i .operation) (laid f k i (ofZ w32 (i .immediate))) ≡ i
 held-laid R k i t r m = same i _ _ _ _ refl refl refl (grind (arith, ints, tells))

@@ -6,7 +6,6 @@ use mathlib.Core.Bool.{Bool, true, false, cond}
 use native.Mathlib.Omega.{arith}
 use mir.Val.{SFits, ofZ}
 use mir.Syntax.{w32}
-use Rattle.std.proofs.shelf.Signed.{ints}
 use Rattle.std.specs.declared.option.Option.{Option}
 use Rattle.std.specs.declared.option.Option.the-variants.{Some, None}
 use Rattle.std.specs.declared.result.Result.the-variants.{Ok, Err}
@@ -22,8 +21,9 @@ use Rattle.isa.proofs.Laid.{lay-held, registers-held, immediate-held}
 use Rattle.isa.proofs.Held.{held-laid}
 use Rattle.isa.proofs.Chosen.{chosen-fits, sound, lay-whole}
 
-pub read-writes : (w : ℕ) (o : Operation) → w < 2 ^ 32 → chosen (cut w) ≡ Some o → writeWord (taken o (cut w)) ≡ Ok w
-read-writes w o h e =
+-- what a chosen row holds of a word is written as the word
+chosen-writes : (w : ℕ) (o : Operation) → w < 2 ^ 32 → chosen (cut w) ≡ Some o → writeWord (taken o (cut w)) ≡ Ok w
+chosen-writes w o h e =
     let p = cut w in
     let f = rowOf o .format in
     let a = registers-held f o p (whole-cut w h) in
@@ -31,28 +31,28 @@ read-writes w o h e =
     let d : layOf (rowOf o) (taken o p) ≡ p = lay-held f (rowOf o) o p (whole-cut w h) (chosen-fits p o e) in
     simp (a, b, d, joined-cut)
 
-pub write-reads : (i : Instruction) → SFits w32 (i .immediate) → registersFit (rowOf (i .operation) .format) i ≡ true
-    → immediateFits (rowOf (i .operation) .format) (i .immediate) ≡ true → readWord (joined (layOf (rowOf (i .operation)) i)) ≡ Ok i
-write-reads i t r m =
-    let k = rowOf (i .operation) in
-    let u = ofZ w32 (i .immediate) in
-    let w = joined (layOf k i) in
-    let l : u < 2 ^ 32 = omega (arith, ints) in
-    let a : cut w ≡ layOf k i = cut-joined (layOf k i) (lay-whole (i .operation) i u l r) in
-    let b : chosen (cut w) ≡ Some (i .operation) = ap chosen a ∙ sound (i .operation) .found i u in
-    ap (λ o. readAs o w) b ∙ ap (λ p. Ok (taken (i .operation) p)) a ∙ ap Ok (held-laid (k .format) k i t r m)
-
 -- what is read was chosen
 read-cases : (x : Option Operation) (w : ℕ) (i : Instruction) → readAs x w ≡ Ok i
     → (o : Operation) × (x ≡ Some o) × (i ≡ taken o (cut w))
 read-cases (Some o) w i e = (o, refl, (cc))
 read-cases None w i e = let z : _≡_ {A = ℕ} 0 1 = cc in absurd (omega arith)
 
-read-back : (w : ℕ) (i : Instruction) → w < 2 ^ 32 → readWord w ≡ Ok i → writeWord i ≡ Ok w
-read-back w i h e = let s = read-cases (chosen (cut w)) w i e in ap writeWord (s .2) ∙ read-writes w (s .0) h (s .1)
+pub read-back : (w : ℕ) (i : Instruction) → w < 2 ^ 32 → readWord w ≡ Ok i → writeWord i ≡ Ok w
+read-back w i h e = let s = read-cases (chosen (cut w)) w i e in ap writeWord (s .2) ∙ chosen-writes w (s .0) h (s .1)
 
 pub one-word : OneWord
 one-word v w hv hw i a b = let p = read-back v i hv a in let q = read-back w i hw b in cc
+
+-- an instruction that fits reads back from the word that is laid out for it
+fitting-reads : (i : Instruction) → SFits w32 (i .immediate) → registersFit (rowOf (i .operation) .format) i ≡ true
+    → immediateFits (rowOf (i .operation) .format) (i .immediate) ≡ true → readWord (joined (layOf (rowOf (i .operation)) i)) ≡ Ok i
+fitting-reads i t r m =
+    let k = rowOf (i .operation) in
+    let u = ofZ w32 (i .immediate) in
+    let w = joined (layOf k i) in
+    let a : cut w ≡ layOf k i = cut-joined (layOf k i) (lay-whole (i .operation) i u r) in
+    let b : chosen (cut w) ≡ Some (i .operation) = ap chosen a ∙ sound (i .operation) .found i u in
+    ap (λ o. readAs o w) b ∙ ap (λ p. Ok (taken (i .operation) p)) a ∙ ap Ok (held-laid (k .format) k i t r m)
 
 -- what is written fits
 write-cases : (r m : Bool) (v w : ℕ) → cond r (cond m (Ok v) (Err BadImmediate)) (Err BadRegister) ≡ Ok w
@@ -61,11 +61,11 @@ write-cases true true v w e = (refl, refl, (cc))
 write-cases true false v w e = let z : _≡_ {A = ℕ} 0 1 = cc in absurd (omega arith)
 write-cases false m v w e = let z : _≡_ {A = ℕ} 0 1 = cc in absurd (omega arith)
 
-write-back : (i : Instruction) (w : ℕ) → SFits w32 (i .immediate) → writeWord i ≡ Ok w → readWord w ≡ Ok i
+pub write-back : (i : Instruction) (w : ℕ) → SFits w32 (i .immediate) → writeWord i ≡ Ok w → readWord w ≡ Ok i
 write-back i w t e =
     let k = rowOf (i .operation) in
     let s = write-cases (registersFit (k .format) i) (immediateFits (k .format) (i .immediate)) (joined (layOf k i)) w e in
-    ap readWord (sym (s .2)) ∙ write-reads i t (s .0) (s .1)
+    ap readWord (sym (s .2)) ∙ fitting-reads i t (s .0) (s .1)
 
 pub one-instruction : OneInstruction
 one-instruction i j ti tj w a b = let p = write-back i w ti a in let q = write-back j w tj b in cc

@@ -3,5 +3,6 @@ pub mod Fields
 pub mod Table
 pub mod Formats
 pub mod Words
+pub mod Refusals
 pub mod Outcomes
 pub mod Text

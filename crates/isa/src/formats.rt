@@ -38,8 +38,10 @@ fn immediate_of(format: Format, fields: Fields) -> i32
             sign_extended(top + eleventh + middle + low, 1 << 12)
         }
         Format::U => {
-            let upper =
-                (fields.funct7 << 13) + (fields.rs2 << 8) + (fields.rs1 << 3) + fields.funct3;
+            let upper = (fields.funct7 << 13)
+                + (fields.rs2 << 8)
+                + (fields.rs1 << 3)
+                + fields.funct3;
             upper as i32
         }
         Format::J => {

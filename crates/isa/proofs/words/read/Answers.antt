@@ -1,4 +1,4 @@
--- What is chosen for the fields of the word is what `readWord` chooses, and the round trip is a lemma.
+-- What is chosen for the fields of the word is what `readWord` chooses, and what reads is written back.
 use mathlib.Core.Path.{_≡_, ap, sym, _∙_}
 use native.Mathlib.Omega.{arith}
 use borrow.Author.Needs.{needs}
@@ -7,8 +7,8 @@ use Rattle.std.specs.declared.result.Result.the-variants.{Ok}
 use Rattle.isa.specs.Fields.{cut}
 use Rattle.isa.specs.Table.{chosen}
 use Rattle.isa.specs.Formats.{taken}
-use Rattle.isa.specs.Words.{readAs, writeWord}
-use Rattle.isa.proofs.Trips.{read-writes, one-word}
+use Rattle.isa.specs.Words.{readAs, readWord}
+use Rattle.isa.proofs.Trips.{read-back, one-word}
 use Rattle.isa.proofs.words.read.Needs as need
 
 pub returns-in-Some : need.returns-in-Some
@@ -17,11 +17,8 @@ returns-in-Some c =
     let o = c .in-Some .operation in
     let e : chosen (cut w) ≡ Some o = ap chosen (sym (c .split-fields .ensures)) ∙ sym (c .choose .ensures) ∙ c .in-Some .is in
     let i : c .take .result ≡ taken o (cut w) = c .take .ensures ∙ ap (taken o) (c .split-fields .ensures) in
-    record {
-      value = ap Ok i ∙ ap (λ x. readAs x w) (sym e);
-      back = ap writeWord i ∙ read-writes w o (omega arith) e;
-      one = one-word;
-    }
+    let value : Ok (c .take .result) ≡ readWord w = ap Ok i ∙ ap (λ x. readAs x w) (sym e) in
+    record { value = value; back = read-back w (c .take .result) (omega arith) (sym value); one = one-word }
 
 pub returns-in-None : need.returns-in-None
 returns-in-None c = record { value = search needs; back = search needs; one = one-word }

@@ -1,19 +1,18 @@
--- What the tests find is what `writeWord` asks, and the round trip is a lemma.
+-- What the tests find is what `writeWord` asks, and what is written reads back.
 use borrow.Author.Needs.{needs}
 use mathlib.Core.Path.{_≡_, ap, sym, subst, _∙_}
 use mathlib.Core.Bool.{true}
-use native.Mathlib.Omega.{arith}
-use Prim.Native.Nat.{_<_, _^_}
 use mir.Val.{SFits, ofZ}
 use mir.Syntax.{w32}
-use Rattle.std.proofs.shelf.Signed.{ints, toZ-ofZ}
+use Rattle.std.proofs.shelf.Signed.{toZ-ofZ}
+use Rattle.std.specs.declared.result.Result.the-variants.{Ok}
 use Rattle.isa.specs.declared.table.Row.{Row}
 use Rattle.isa.specs.Fields.{joined, Whole}
 use Rattle.isa.specs.Table.{rowOf}
 use Rattle.isa.specs.Formats.{registersFit, immediateFits, layOf}
-use Rattle.isa.specs.Words.{readWord}
+use Rattle.isa.specs.Words.{writeWord}
 use Rattle.isa.proofs.Chosen.{lay-whole}
-use Rattle.isa.proofs.Trips.{write-reads, one-instruction}
+use Rattle.isa.proofs.Trips.{write-back, one-instruction}
 use Rattle.isa.proofs.words.write.Needs as need
 
 pub returns-then-not-registers-fit : need.returns-then-not-registers-fit
@@ -26,12 +25,10 @@ pub join-requires : need.join-requires
 join-requires c κs =
     let i = c .args .instruction in
     let h = c .row-of-row .ensures in
-    let t : SFits w32 (i .immediate) = search needs in
-    let u : ofZ w32 (i .immediate) < 2 ^ 32 = omega (arith, ints) in
     let r : registersFit (rowOf (i .operation) .format) i ≡ true =
-      ap (λ (x : Row). registersFit (x .format) i) (sym h) ∙ sym (c .registers-fit .ensures) ∙ c .if-not-registers-fit .left in
+    ap (λ (x : Row). registersFit (x .format) i) (sym h) ∙ sym (c .registers-fit .ensures) ∙ c .if-not-registers-fit .left in
     let e : c .lay .result ≡ layOf (rowOf (i .operation)) i = c .lay .ensures ∙ ap (λ (x : Row). layOf x i) h in
-    subst Whole (sym e) (lay-whole (i .operation) i (ofZ w32 (i .immediate)) u r)
+    subst Whole (sym e) (lay-whole (i .operation) i (ofZ w32 (i .immediate)) r)
 
 pub returns : need.returns
 returns c =
@@ -40,9 +37,10 @@ returns c =
     let h = c .row-of-row .ensures in
     let t : SFits w32 (i .immediate) = search needs in
     let r : registersFit (k .format) i ≡ true =
-      ap (λ (x : Row). registersFit (x .format) i) (sym h) ∙ sym (c .registers-fit .ensures) ∙ c .if-not-registers-fit .left in
+    ap (λ (x : Row). registersFit (x .format) i) (sym h) ∙ sym (c .registers-fit .ensures) ∙ c .if-not-registers-fit .left in
     let m-fits = simp toZ-ofZ at (c .immediate-fits .ensures) in
     let m : immediateFits (k .format) (i .immediate) ≡ true =
-      ap (λ (x : Row). immediateFits (x .format) (i .immediate)) (sym h) ∙ sym m-fits ∙ c .if-not-immediate-fits .left in
+    ap (λ (x : Row). immediateFits (x .format) (i .immediate)) (sym h) ∙ sym m-fits ∙ c .if-not-immediate-fits .left in
     let e : c .join .result ≡ joined (layOf k i) = c .join .ensures ∙ ap joined (c .lay .ensures ∙ ap (λ (x : Row). layOf x i) h) in
-    record { value = simp (r, m, e); back = ap readWord e ∙ write-reads i t r m; one = one-instruction }
+    let value : Ok (c .join .result) ≡ writeWord i = simp (r, m, e) in
+    record { value = value; back = write-back i (c .join .result) t (sym value); one = one-instruction }
