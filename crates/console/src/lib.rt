@@ -4,7 +4,13 @@
 //   numbers    a number argument, decimal or after 0x
 //   lines      a line of program text
 //   hex        a word as eight hex digits
+//   records    a record as a line for other programs
+//   schedule   how the interrupt line stands over a run
+//   counts     how many instructions retired in each way
+pub mod counts;
 pub mod digits;
 pub mod hex;
 pub mod lines;
 pub mod numbers;
+pub mod records;
+pub mod schedule;
