@@ -18,7 +18,7 @@ use Rattle.std.proofs.shelf.Lists.{at-drop-more, at-drop-all, take-more, take-a
 use Rattle.std.proofs.shelf.Tests.{cond-true, cond-false, lt-ltb, le-ltb, eq-eqb, ne-eqb, cases-lt, and-from}
 use Rattle.std.proofs.shelf.Ways.{tells}
 use Rattle.console.specs.Digits.{firstStranger, value64, hexMark, afterMark}
-use Rattle.console.specs.Lines.{blank, uncommented, trimmedFront, trimmedBack, beforeKept}
+use Rattle.console.specs.Lines.{blank, before, trimmedFront, trimmedBack, beforeKept}
 
 pub stranger-here : (r : ℕ) (xs : List ℕ) (i : ℕ) → i < length xs → r ≤ digitValue (getD xs i 0) → firstStranger r (drop i xs) ≡ Some (getD xs i 0)
 stranger-here r xs i h d =
@@ -77,23 +77,21 @@ value-held r t xs i h inv k =
     let e : t ≡ value r xs = sym (value-end r t xs i h) ∙ inv in
     rw e (sym (cond-true (ltb (value r xs) (2 ^ 64)) (Some (value r xs)) None (lt-ltb (value r xs) (2 ^ 64) (omega (arith, e)))))
 
-pub uncommented-here : (xs : List ℕ) (i : ℕ) → i < length xs → getD xs i 0 ≡ 35 → uncommented (drop i xs) ≡ []
-uncommented-here xs i h e =
-    at-drop-more uncommented xs i 0 h ∙ ap (λ b. cond (eqb b 35) [] (b ∷ uncommented (drop (i + 1) xs))) e
-
 front-of-one : (xs : List ℕ) (i : ℕ) (ys : List ℕ) → i < length xs → take (i + 1) xs ++ ys ≡ take i xs ++ (getD xs i 0 ∷ ys)
 front-of-one xs i ys h = ap (λ l. l ++ ys) (take-more xs i 0 h) ∙ append-assoc (take i xs) (getD xs i 0 ∷ []) ys
 
-pub uncommented-past : (xs : List ℕ) (i : ℕ) → i < length xs → (getD xs i 0 ≡ 35 → ⊥) → take i xs ++ uncommented (drop i xs) ≡ take (i + 1) xs ++ uncommented (drop (i + 1) xs)
-uncommented-past xs i h n =
-    ap (λ l. take i xs ++ l) (at-drop-more uncommented xs i 0 h ∙ cond-false (eqb (getD xs i 0) 35) [] (getD xs i 0 ∷ uncommented (drop (i + 1) xs)) (ne-eqb (getD xs i 0) 35 n))
-    ∙ sym (front-of-one xs i (uncommented (drop (i + 1) xs)) h)
+pub before-here : (b : ℕ) (xs : List ℕ) (i : ℕ) → i < length xs → getD xs i 0 ≡ b → take i xs ++ before b (drop i xs) ≡ take i xs
+before-here b xs i h e =
+    ap (λ l. take i xs ++ l) (at-drop-more (before b) xs i 0 h ∙ cond-true (eqb (getD xs i 0) b) [] (getD xs i 0 ∷ before b (drop (i + 1) xs)) (eq-eqb (getD xs i 0) b e))
+    ∙ append-nil (take i xs)
 
-pub uncommented-all : (xs : List ℕ) (i : ℕ) → length xs ≤ i → take i xs ++ uncommented (drop i xs) ≡ xs
-uncommented-all xs i h = ap (λ l. take i xs ++ l) (at-drop-all uncommented xs i h) ∙ append-nil (take i xs) ∙ take-all i xs h
+pub before-past : (b : ℕ) (xs : List ℕ) (i : ℕ) → i < length xs → (getD xs i 0 ≡ b → ⊥) → take i xs ++ before b (drop i xs) ≡ take (i + 1) xs ++ before b (drop (i + 1) xs)
+before-past b xs i h n =
+    ap (λ l. take i xs ++ l) (at-drop-more (before b) xs i 0 h ∙ cond-false (eqb (getD xs i 0) b) [] (getD xs i 0 ∷ before b (drop (i + 1) xs)) (ne-eqb (getD xs i 0) b n))
+    ∙ sym (front-of-one xs i (before b (drop (i + 1) xs)) h)
 
-pub uncommented-stops : (xs : List ℕ) (i : ℕ) → i < length xs → getD xs i 0 ≡ 35 → take i xs ++ uncommented (drop i xs) ≡ take i xs
-uncommented-stops xs i h e = ap (λ l. take i xs ++ l) (uncommented-here xs i h e) ∙ append-nil (take i xs)
+pub before-all : (b : ℕ) (xs : List ℕ) (i : ℕ) → length xs ≤ i → take i xs ++ before b (drop i xs) ≡ xs
+before-all b xs i h = ap (λ l. take i xs ++ l) (at-drop-all (before b) xs i h) ∙ append-nil (take i xs) ∙ take-all i xs h
 
 pub trimmedFront-past : (xs : List ℕ) (i : ℕ) → i < length xs → blank (getD xs i 0) ≡ true → trimmedFront (drop i xs) ≡ trimmedFront (drop (i + 1) xs)
 trimmedFront-past xs i h e =

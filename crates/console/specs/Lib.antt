@@ -5,3 +5,4 @@ pub mod Hex
 pub mod RecordLines
 pub mod Schedule
 pub mod Counts
+pub mod ProgramText

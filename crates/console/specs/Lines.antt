@@ -19,10 +19,14 @@ use Rattle.console.specs.Digits.{firstStranger, afterMark}
 abbrev pub blank : ℕ → Bool
 blank c = eqb c 32 || (eqb c 9 || eqb c 13)
 
--- what stands before the comment
+-- what stands before the first b, or all of it where there is none
+abbrev pub before : ℕ → List ℕ → List ℕ
+before b [] = []
+before b (c ∷ cs) = cond (eqb c b) [] (c ∷ before b cs)
+
+-- what stands before the comment, which `#` begins
 abbrev pub uncommented : List ℕ → List ℕ
-uncommented [] = []
-uncommented (c ∷ cs) = cond (eqb c 35) [] (c ∷ uncommented cs)
+uncommented bs = before 35 bs
 
 abbrev pub trimmedFront : List ℕ → List ℕ
 trimmedFront [] = []

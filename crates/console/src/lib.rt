@@ -3,6 +3,7 @@
 //   digits     the value of digits in a base
 //   numbers    a number argument, decimal or after 0x
 //   lines      a line of program text
+//   program    program text, line by line
 //   hex        a word as eight hex digits
 //   records    a record as a line for other programs
 //   schedule   how the interrupt line stands over a run
@@ -12,5 +13,6 @@ pub mod digits;
 pub mod hex;
 pub mod lines;
 pub mod numbers;
+pub mod program;
 pub mod records;
 pub mod schedule;

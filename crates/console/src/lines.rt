@@ -1,6 +1,6 @@
 // A line of program text: a word in hex digits, or nothing, with a comment from `#` on.
 ghost use mathlib.Core.Path.{_≡_};
-ghost use Rattle.console.specs.Lines.{blank, uncommented, trimmedFront, trimmedBack, lineText, hexWord, textWord, lineWord};
+ghost use Rattle.console.specs.Lines.{blank, before, trimmedFront, trimmedBack, hexWord, lineWord};
 use crate::digits;
 
 #[derive(Clone, Copy, PartialEq, Eq, Debug)]
@@ -16,15 +16,16 @@ fn is_blank(byte: u8) -> bool
     byte == b' ' || byte == b'\t' || byte == b'\r'
 }
 
-fn before_comment(line: &[u8]) -> &[u8]
-    ensures { λ r. ⌜ now r ≡ uncommented (now (line .entry)) ⌝ }
+// What stands before the first such byte, or all of it where there is none.
+pub fn text_before(byte: u8, text: &[u8]) -> &[u8]
+    ensures { λ r. ⌜ now r ≡ before byte (now (text .entry)) ⌝ }
 {
-    for (i, byte) in line.iter().enumerate() {
-        if *byte == b'#' {
-            return &line[0..i];
+    for (i, found) in text.iter().enumerate() {
+        if *found == byte {
+            return &text[0..i];
         }
     }
-    line
+    text
 }
 
 fn trim_front(text: &[u8]) -> &[u8]
@@ -69,7 +70,7 @@ fn parse_hex_word(text: &[u8]) -> Result<u32, WordFault>
 pub fn parse_line(line: &[u8]) -> Result<Option<u32>, WordFault>
     ensures { λ r. ⌜ r ≡ lineWord (now (line .entry)) ⌝ }
 {
-    let text = trim_back(trim_front(before_comment(line)));
+    let text = trim_back(trim_front(text_before(b'#', line)));
     if text.is_empty() {
         return Ok(None);
     }
