@@ -1,3 +1,4 @@
 mod Texts
 mod Stands
 mod TextLines
+mod Names

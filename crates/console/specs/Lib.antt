@@ -6,3 +6,4 @@ pub mod RecordLines
 pub mod Schedule
 pub mod Counts
 pub mod ProgramText
+pub mod Settings
