@@ -2,3 +2,4 @@ mod Texts
 mod Stands
 mod TextLines
 mod Names
+mod Arguments
