@@ -40,8 +40,8 @@ read-cases None w i e = let z : _≡_ {A = ℕ} 0 1 = cc in absurd (omega arith)
 pub read-back : (w : ℕ) (i : Instruction) → w < 2 ^ 32 → readWord w ≡ Ok i → writeWord i ≡ Ok w
 read-back w i h e = let s = read-cases (chosen (cut w)) w i e in ap writeWord (s .2) ∙ chosen-writes w (s .0) h (s .1)
 
-pub one-word : OneWord
-one-word v w hv hw i a b = let p = read-back v i hv a in let q = read-back w i hw b in cc
+pub one-word : (w : ℕ) (i : Instruction) → w < 2 ^ 32 → readWord w ≡ Ok i → OneWord w i
+one-word w i h e v l r = let p = read-back w i h e in let q = read-back v i l r in cc
 
 -- an instruction that fits reads back from the word that is laid out for it
 fitting-reads : (i : Instruction) → SFits w32 (i .immediate) → registersFit (rowOf (i .operation) .format) i ≡ true
@@ -67,5 +67,5 @@ write-back i w t e =
     let s = write-cases (registersFit (k .format) i) (immediateFits (k .format) (i .immediate)) (joined (layOf k i)) w e in
     ap readWord (sym (s .2)) ∙ fitting-reads i t (s .0) (s .1)
 
-pub one-instruction : OneInstruction
-one-instruction i j ti tj w a b = let p = write-back i w ti a in let q = write-back j w tj b in cc
+pub one-instruction : (i : Instruction) (w : ℕ) → SFits w32 (i .immediate) → writeWord i ≡ Ok w → OneInstruction i w
+one-instruction i w t e j u r = let p = write-back i w t e in let q = write-back j w u r in cc

@@ -44,11 +44,10 @@ writeFaultNumber BadImmediate = 21
 abbrev pub illegalWordNumber : IllegalWord → ℕ
 illegalWordNumber e = 22
 
--- words and the instructions that can be written are one to one: two words that read as one instruction are one word,
-abbrev pub OneWord : Type 0
-OneWord = (v w : ℕ) → v < 2 ^ 32 → w < 2 ^ 32 → (i : Instruction) → readWord v ≡ Ok i → readWord w ≡ Ok i → v ≡ w
+-- words and the instructions that can be written are one to one: no other word reads as i,
+abbrev pub OneWord : ℕ → Instruction → Type 0
+OneWord w i = (v : ℕ) → v < 2 ^ 32 → readWord v ≡ Ok i → v ≡ w
 
--- and two instructions that are written as one word are one instruction
-abbrev pub OneInstruction : Type 0
-OneInstruction =
-    (i j : Instruction) → SFits w32 (i .immediate) → SFits w32 (j .immediate) → (w : ℕ) → writeWord i ≡ Ok w → writeWord j ≡ Ok w → i ≡ j
+-- and no other instruction is written as w; an i32 holds the immediate, so it fits 32 bits
+abbrev pub OneInstruction : Instruction → ℕ → Type 0
+OneInstruction i w = (j : Instruction) → SFits w32 (j .immediate) → writeWord j ≡ Ok w → j ≡ i

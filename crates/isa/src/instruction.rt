@@ -1,9 +1,7 @@
 // An instruction: an operation with its registers and its immediate, 0 where the operation lacks one.
 use crate::operation::Operation;
-use crate::operation::OperationDebug;
-use crate::operation::OperationPartialEq;
 
-#[derive(Clone, Copy, PartialEq, Eq, Debug)]
+#[derive(Clone, Copy)]
 pub struct Instruction {
     pub operation: Operation,
     pub rd: u8,

@@ -2,7 +2,7 @@
 ghost use mathlib.Core.Path.{_≡_};
 ghost use Rattle.isa.specs.Classes.{kindOf, classOf, classNumber};
 
-#[derive(Clone, Copy, PartialEq, Eq, Debug)]
+#[derive(Clone, Copy)]
 pub enum Operation {
     Lui,
     Auipc,
@@ -44,7 +44,7 @@ pub enum Operation {
 }
 
 // What kind of functional unit works an operation out.
-#[derive(Clone, Copy, PartialEq, Eq, Debug)]
+#[derive(Clone, Copy)]
 pub enum Class {
     Plain,
     Multiply,
@@ -66,7 +66,7 @@ impl Class {
 }
 
 // Who carries an operation out: a unit of some class, or the machine itself.
-#[derive(Clone, Copy, PartialEq, Eq, Debug)]
+#[derive(Clone, Copy)]
 pub enum Kind {
     Worked(Class),
     EnvironmentCall,

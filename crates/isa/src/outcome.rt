@@ -5,7 +5,7 @@ ghost use Rattle.isa.specs.Outcomes.{residue, left, right, rightSigned, less, 
 use crate::instruction::Instruction;
 use crate::operation::Operation;
 
-#[derive(Clone, Copy, PartialEq, Eq, Debug)]
+#[derive(Clone, Copy)]
 pub enum Outcome {
     Done { value: u32, next: u32 },
     Misaligned,

@@ -11,12 +11,12 @@ use crate::instruction::Instruction;
 use crate::table;
 use std::fmt;
 
-#[derive(Clone, Copy, PartialEq, Eq, Debug)]
+#[derive(Clone, Copy)]
 pub struct IllegalWord {
     pub word: u32,
 }
 
-#[derive(Clone, Copy, PartialEq, Eq, Debug)]
+#[derive(Clone, Copy)]
 pub enum WriteFault {
     BadRegister,
     BadImmediate,
@@ -60,11 +60,11 @@ pub impl fmt::Display for WriteFault as WriteFaultDisplay {
     }
 }
 
-// What reads is written again as the same word, so no two words read alike.
+// A word that reads is what its instruction is written as, and no other word reads as that.
 pub fn read(word: u32) -> Result<Instruction, IllegalWord>
     ensures value { λ r. ⌜ r ≡ readWord word ⌝ }
     ensures back { λ r. ⌜ made r (λ i. writeWord i ≡ Ok word) ⌝ }
-    ensures one { λ _. ⌜ OneWord ⌝ }
+    ensures one { λ r. ⌜ made r (OneWord word) ⌝ }
 {
     let fields = fields::split(word);
     match table::choose(fields) {
@@ -73,11 +73,11 @@ pub fn read(word: u32) -> Result<Instruction, IllegalWord>
     }
 }
 
-// What is written reads as the same instruction, so no two instructions are written alike.
+// An instruction that is written is what its word reads as, and no other is written as that.
 pub fn write(instruction: Instruction) -> Result<u32, WriteFault>
     ensures value { λ r. ⌜ r ≡ writeWord instruction ⌝ }
     ensures back { λ r. ⌜ made r (λ w. readWord w ≡ Ok instruction) ⌝ }
-    ensures one { λ _. ⌜ OneInstruction ⌝ }
+    ensures one { λ r. ⌜ made r (OneInstruction instruction) ⌝ }
 {
     let row = table::row_of(instruction.operation);
     if !formats::registers_fit(row.format, instruction) {

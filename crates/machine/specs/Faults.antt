@@ -1,6 +1,8 @@
--- The numbers of the refusals.
+-- The numbers of the refusals, and the line that names each.
 -- Assumes nothing.
 use Prim.Native.Nat.{ℕ}
+use mathlib.Core.List.{List}
+use lib.Chars.{codes}
 use Rattle.machine.specs.declared.fault.LoadFault.{LoadFault}
 use Rattle.machine.specs.declared.fault.LoadFault.the-variants.{Overlong, Skew}
 use Rattle.machine.specs.declared.fault.SkewedAddress.{SkewedAddress}
@@ -15,3 +17,13 @@ skewNumber e = 2
 
 abbrev pub noRegisterNumber : NoRegister → ℕ
 noRegisterNumber e = 3
+
+abbrev pub loadFaultText : LoadFault → List ℕ
+loadFaultText Overlong = codes "1 overlong"
+loadFaultText Skew = codes "2 skew"
+
+abbrev pub skewText : SkewedAddress → List ℕ
+skewText e = codes "2 skew"
+
+abbrev pub noRegisterText : NoRegister → List ℕ
+noRegisterText e = codes "3 no register"

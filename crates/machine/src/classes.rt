@@ -3,7 +3,7 @@ ghost use mathlib.Core.Path.{_≡_};
 ghost use Rattle.machine.specs.Classes.{serves, everyClass};
 use isa::operation::Class;
 
-#[derive(Clone, Copy, PartialEq, Eq, Debug)]
+#[derive(Clone, Copy)]
 pub struct Classes {
     pub plain: bool,
     pub multiply: bool,

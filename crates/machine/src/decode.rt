@@ -7,10 +7,8 @@ use crate::classes::Classes;
 use isa::instruction::Instruction;
 use isa::operation::Kind;
 use isa::words::read;
-use crate::cause::CauseDebug;
-use isa::instruction::InstructionDebug;
 
-#[derive(Clone, Copy, Debug)]
+#[derive(Clone, Copy)]
 pub enum Decoded {
     Trap(Cause),
     // MRET
@@ -36,7 +34,7 @@ fn decode_kind(served: Classes, instruction: Instruction, kind: Kind) -> Decoded
     }
 }
 
-pub fn decode(served: Classes, word: Option<u32>) -> Decoded
+pub(crate) fn decode(served: Classes, word: Option<u32>) -> Decoded
     ensures { λ r. ⌜ r ≡ decoded (serves served) word ⌝ }
 {
     let Some(word) = word else {

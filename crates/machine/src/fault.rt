@@ -1,8 +1,10 @@
 // What load, reads and writes refuse.
 ghost use mathlib.Core.Path.{_≡_};
-ghost use Rattle.machine.specs.Faults.{loadFaultNumber, skewNumber, noRegisterNumber};
+ghost use Rattle.std.specs.declared.option.Option.the-variants.{Some};
+ghost use Rattle.machine.specs.Faults.{loadFaultNumber, skewNumber, noRegisterNumber, loadFaultText, skewText, noRegisterText};
+use std::fmt;
 
-#[derive(Clone, Copy, PartialEq, Eq, Debug)]
+#[derive(Clone, Copy)]
 pub enum LoadFault {
     // more words than the program table holds
     Overlong,
@@ -21,8 +23,19 @@ impl LoadFault {
     }
 }
 
+pub impl fmt::Display for LoadFault as LoadFaultDisplay {
+    ghost shown = { λ e. Some (loadFaultText e) };
+
+    fn fmt<W: fmt::Write>(&self, f: &mut fmt::Formatter<W>) -> fmt::Result {
+        match self {
+            LoadFault::Overlong => f.write_str("1 overlong"),
+            LoadFault::Skew => f.write_str("2 skew"),
+        }
+    }
+}
+
 // An address for pc that is no multiple of 4.
-#[derive(Clone, Copy, PartialEq, Eq, Debug)]
+#[derive(Clone, Copy)]
 pub struct SkewedAddress {
     pub address: u32,
 }
@@ -35,8 +48,16 @@ impl SkewedAddress {
     }
 }
 
+pub impl fmt::Display for SkewedAddress as SkewedAddressDisplay {
+    ghost shown = { λ e. Some (skewText e) };
+
+    fn fmt<W: fmt::Write>(&self, f: &mut fmt::Formatter<W>) -> fmt::Result {
+        f.write_str("2 skew")
+    }
+}
+
 // A register number above 31.
-#[derive(Clone, Copy, PartialEq, Eq, Debug)]
+#[derive(Clone, Copy)]
 pub struct NoRegister {
     pub register: u8,
 }
@@ -46,5 +67,13 @@ impl NoRegister {
         ensures { λ r. ⌜ r ≡ noRegisterNumber self ⌝ }
     {
         3
+    }
+}
+
+pub impl fmt::Display for NoRegister as NoRegisterDisplay {
+    ghost shown = { λ e. Some (noRegisterText e) };
+
+    fn fmt<W: fmt::Write>(&self, f: &mut fmt::Formatter<W>) -> fmt::Result {
+        f.write_str("3 no register")
     }
 }

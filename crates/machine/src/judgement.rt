@@ -1,8 +1,7 @@
 // What an instruction does to the state of the machine.
 use crate::cause::Cause;
-use crate::cause::CauseDebug;
 
-#[derive(Clone, Copy, Debug)]
+#[derive(Clone, Copy)]
 pub enum Judgement {
     Trap(Cause),
     // MRET

@@ -12,9 +12,9 @@ pub struct Program {
 }
 
 impl Program {
-    pub const CAPACITY: usize = 1024;
+    pub(crate) const CAPACITY: usize = 1024;
 
-    pub fn empty() -> Program
+    pub(crate) fn empty() -> Program
         ensures { λ r. ⌜ r ≡ noProgram ⌝ }
     {
         Program {
@@ -36,7 +36,7 @@ impl Program {
         }
     }
 
-    pub fn word_at(&self, address: u32) -> Option<u32>
+    pub(crate) fn word_at(&self, address: u32) -> Option<u32>
         ensures { λ r. ⌜ r ≡ wordAt (now (self .entry)) address ⌝ }
     {
         let index = (address / 4) as usize;

@@ -2,7 +2,7 @@
 ghost use mathlib.Core.Path.{_≡_};
 ghost use Rattle.machine.specs.Records.{retirementNumber};
 
-#[derive(Clone, Copy, PartialEq, Eq, Debug)]
+#[derive(Clone, Copy)]
 pub enum Retirement {
     Plain,
     Trapped,
@@ -21,7 +21,7 @@ impl Retirement {
     }
 }
 
-#[derive(Clone, Copy, PartialEq, Eq, Debug)]
+#[derive(Clone, Copy)]
 pub struct Record {
     pub pc: u32,
     // 0 where pc is outside the program

@@ -7,7 +7,7 @@ use crate::fault::SkewedAddress;
 use crate::program::Program;
 
 // The words and bits besides registers, pc and program.
-#[derive(Clone, Copy, PartialEq, Eq, Debug)]
+#[derive(Clone, Copy)]
 pub struct TrapState {
     pub mepc: u32,
     pub mcause: u32,

@@ -20,7 +20,7 @@ use isa::outcome::Outcome;
 const EXTERNAL_INTERRUPT: u32 = 0x8000_000b;
 
 // What an instruction's outcome means for its destination register.
-pub fn judge_outcome(rd: u8, outcome: Option<Outcome>) -> Judgement
+fn judge_outcome(rd: u8, outcome: Option<Outcome>) -> Judgement
     ensures { λ r. ⌜ r ≡ judgedOutcome rd outcome ⌝ }
 {
     match outcome {

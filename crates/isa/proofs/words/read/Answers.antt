@@ -1,7 +1,7 @@
 -- What is chosen for the fields of the word is what `readWord` chooses, and what reads is written back.
 use mathlib.Core.Path.{_≡_, ap, sym, _∙_}
 use native.Mathlib.Omega.{arith}
-use borrow.Author.Needs.{needs}
+use Prim.Native.Nat.{_<_, _^_}
 use Rattle.std.specs.declared.option.Option.the-variants.{Some}
 use Rattle.std.specs.declared.result.Result.the-variants.{Ok}
 use Rattle.isa.specs.Fields.{cut}
@@ -18,7 +18,9 @@ returns-in-Some c =
     let e : chosen (cut w) ≡ Some o = ap chosen (sym (c .split-fields .ensures)) ∙ sym (c .choose .ensures) ∙ c .in-Some .is in
     let i : c .take .result ≡ taken o (cut w) = c .take .ensures ∙ ap (taken o) (c .split-fields .ensures) in
     let value : Ok (c .take .result) ≡ readWord w = ap Ok i ∙ ap (λ x. readAs x w) (sym e) in
-    record { value = value; back = read-back w (c .take .result) (omega arith) (sym value); one = one-word }
-
-pub returns-in-None : need.returns-in-None
-returns-in-None c = record { value = search needs; back = search needs; one = one-word }
+    let h : w < 2 ^ 32 = omega arith in
+    record {
+      value = value;
+      back = read-back w (c .take .result) h (sym value);
+      one = one-word w (c .take .result) h (sym value);
+    }

@@ -15,12 +15,6 @@ use Rattle.isa.proofs.Chosen.{lay-whole}
 use Rattle.isa.proofs.Trips.{write-back, one-instruction}
 use Rattle.isa.proofs.words.write.Needs as need
 
-pub returns-then-not-registers-fit : need.returns-then-not-registers-fit
-returns-then-not-registers-fit c = record { value = search needs; back = search needs; one = one-instruction }
-
-pub returns-then-not-immediate-fits : need.returns-then-not-immediate-fits
-returns-then-not-immediate-fits c = record { value = search needs; back = search needs; one = one-instruction }
-
 pub join-requires : need.join-requires
 join-requires c κs =
     let i = c .args .instruction in
@@ -43,4 +37,8 @@ returns c =
     ap (λ (x : Row). immediateFits (x .format) (i .immediate)) (sym h) ∙ sym m-fits ∙ c .if-not-immediate-fits .left in
     let e : c .join .result ≡ joined (layOf k i) = c .join .ensures ∙ ap joined (c .lay .ensures ∙ ap (λ (x : Row). layOf x i) h) in
     let value : Ok (c .join .result) ≡ writeWord i = simp (r, m, e) in
-    record { value = value; back = write-back i (c .join .result) t (sym value); one = one-instruction }
+    record {
+      value = value;
+      back = write-back i (c .join .result) t (sym value);
+      one = one-instruction i (c .join .result) t (sym value);
+    }
