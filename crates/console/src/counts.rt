@@ -3,7 +3,7 @@ ghost use mathlib.Core.Path.{_≡_};
 ghost use Rattle.console.specs.Counts.{noCounts, counted};
 use machine::record::Retirement;
 
-#[derive(Clone, Copy, PartialEq, Eq, Debug)]
+#[derive(Clone, Copy)]
 pub struct Counts {
     pub plain: u64,
     pub trapped: u64,

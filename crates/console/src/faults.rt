@@ -1,14 +1,15 @@
 // Faults in a line for people.
 use crate::lines::WordFault;
 use crate::numbers::NumberFault;
+use crate::options::OptionFault;
 use crate::program::ProgramFault;
 use std::fmt;
 
 pub impl fmt::Display for WordFault as WordFaultDisplay {
     fn fmt<W: fmt::Write>(&self, f: &mut fmt::Formatter<W>) -> fmt::Result {
-        match self {
-            WordFault::NotHex(byte) if *byte > 32 && *byte < 127 => {
-                write!(f, "`{}` is no hex digit", char::from(*byte))
+        match *self {
+            WordFault::NotHex(byte) if byte > 32 && byte < 127 => {
+                write!(f, "`{}` is no hex digit", char::from(byte))
             }
             WordFault::NotHex(byte) => write!(f, "byte {byte} is no hex digit"),
             WordFault::TooWide => f.write_str("more than eight hex digits"),
@@ -17,20 +18,23 @@ pub impl fmt::Display for WordFault as WordFaultDisplay {
     }
 }
 
-pub impl fmt::Display for NumberFault as NumberFaultDisplay {
+pub impl fmt::Display for ProgramFault as ProgramFaultDisplay {
     fn fmt<W: fmt::Write>(&self, f: &mut fmt::Formatter<W>) -> fmt::Result {
-        match self {
-            NumberFault::NotANumber => f.write_str("not a number"),
-            NumberFault::TooLarge => f.write_str("too large a number"),
+        match *self {
+            ProgramFault::BadLine(line, fault) => write!(f, "line {line}: {fault}"),
+            ProgramFault::NoMemory => f.write_str("no memory for the program"),
         }
     }
 }
 
-pub impl fmt::Display for ProgramFault as ProgramFaultDisplay {
+pub impl fmt::Display for OptionFault as OptionFaultDisplay {
     fn fmt<W: fmt::Write>(&self, f: &mut fmt::Formatter<W>) -> fmt::Result {
-        match self {
-            ProgramFault::BadLine(line, fault) => write!(f, "line {line}: {fault}"),
-            ProgramFault::NoMemory => f.write_str("no memory for the program"),
+        match *self {
+            OptionFault::Unknown => f.write_str("unknown argument"),
+            OptionFault::NoValue => f.write_str("a number is missing after it"),
+            OptionFault::BadNumber(NumberFault::NotANumber) => f.write_str("not a number"),
+            OptionFault::BadNumber(NumberFault::TooLarge) => f.write_str("too large a number"),
+            OptionFault::NoMemory => f.write_str("no memory for the options"),
         }
     }
 }

@@ -4,12 +4,15 @@
 //   numbers    a number argument, decimal or after 0x
 //   lines      a line of program text
 //   program    program text, line by line
-//   hex        a word as eight hex digits
-//   records    a record as a line for other programs
 //   options    the options of a run, from the argument list
 //   faults     faults in a line for people
+//   hex        a word as eight hex digits
+//   records    a record as a line for other programs
+//   table      records as a table for people
 //   schedule   how the interrupt line stands over a run
 //   counts     how many instructions retired in each way
+//   session    a run of the sequential machine
+//   summary    what a run came to, for people
 pub mod counts;
 pub mod digits;
 pub mod faults;
@@ -20,3 +23,6 @@ pub mod options;
 pub mod program;
 pub mod records;
 pub mod schedule;
+pub mod session;
+pub mod summary;
+pub mod table;

@@ -3,7 +3,7 @@ ghost use mathlib.Core.Path.{_≡_};
 ghost use Rattle.console.specs.Lines.{blank, before, trimmedFront, trimmedBack, hexWord, lineWord};
 use crate::digits;
 
-#[derive(Clone, Copy, PartialEq, Eq, Debug)]
+#[derive(Clone, Copy)]
 pub enum WordFault {
     NotHex(u8),
     TooWide,

@@ -3,7 +3,7 @@ ghost use mathlib.Core.Path.{_≡_};
 ghost use Rattle.console.specs.Numbers.{digitsNumber, numberOf, addressOf};
 use crate::digits;
 
-#[derive(Clone, Copy, PartialEq, Eq, Debug)]
+#[derive(Clone, Copy)]
 pub enum NumberFault {
     NotANumber,
     TooLarge,

@@ -8,14 +8,12 @@ ghost use Rattle.std.specs.declared.result.Result.the-variants.{Ok, Err};
 ghost use Rattle.console.specs.declared.options.OptionFault.the-variants.{NoMemory, BadNumber};
 ghost use Rattle.console.specs.Settings.{settingsOf, defaults, argumentNamed, begun, withEvent, given, taken, settingsIn};
 use crate::numbers::NumberFault;
-use crate::numbers::NumberFaultDebug;
-use crate::numbers::NumberFaultPartialEq;
 use crate::numbers::parse_address;
 use crate::numbers::parse_number;
 use crate::schedule::LineEvent;
 use std::alloc::Global;
 
-#[derive(Clone, Copy, PartialEq, Eq, Debug)]
+#[derive(Clone, Copy)]
 pub enum Argument {
     Pc,
     Vector,
@@ -29,14 +27,14 @@ pub enum Argument {
 }
 
 // What standard output gets.
-#[derive(Clone, Copy, PartialEq, Eq, Debug)]
+#[derive(Clone, Copy)]
 pub enum Report {
     Table,
     Records,
     Summary,
 }
 
-#[derive(Clone, Copy, PartialEq, Eq, Debug)]
+#[derive(Clone, Copy)]
 pub enum OptionFault {
     Unknown,
     NoValue,
@@ -45,7 +43,7 @@ pub enum OptionFault {
 }
 
 // A fault, and the place of the argument that it is about.
-#[derive(Clone, Copy, PartialEq, Eq, Debug)]
+#[derive(Clone, Copy)]
 pub struct BadArgument {
     pub place: usize,
     pub fault: OptionFault,

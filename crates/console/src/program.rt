@@ -11,13 +11,11 @@ ghost use Rattle.console.specs.declared.program.ProgramFault.the-variants.{NoM
 ghost use Rattle.console.specs.Lines.{before, lineWord};
 ghost use Rattle.console.specs.ProgramText.{wordsOfLine, programWords};
 use crate::lines::WordFault;
-use crate::lines::WordFaultDebug;
-use crate::lines::WordFaultPartialEq;
 use crate::lines::parse_line;
 use crate::lines::text_before;
 use std::alloc::Global;
 
-#[derive(Clone, Copy, PartialEq, Eq, Debug)]
+#[derive(Clone, Copy)]
 pub enum ProgramFault {
     BadLine(usize, WordFault),
     NoMemory,

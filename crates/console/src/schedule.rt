@@ -3,7 +3,7 @@ ghost use mathlib.Core.Path.{_≡_};
 ghost use Rattle.console.specs.Schedule.{lineStands};
 
 // Sets the line after some number of retirements.
-#[derive(Clone, Copy, PartialEq, Eq, Debug)]
+#[derive(Clone, Copy)]
 pub struct LineEvent {
     pub after: u64,
     pub up: bool,
