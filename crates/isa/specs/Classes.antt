@@ -10,12 +10,6 @@ use Rattle.isa.specs.declared.operation.Kind.{Kind}
 use Rattle.isa.specs.declared.operation.Kind.the-variants.{Worked, EnvironmentCall, Breakpoint, TrapReturn}
 use Rattle.isa.specs.declared.operation.Class.the-variants.{Plain, Multiply, Divide, Transfer}
 
-abbrev pub classNumber : Class → ℕ
-classNumber Plain = 0
-classNumber Multiply = 1
-classNumber Divide = 2
-classNumber Transfer = 3
-
 abbrev pub kindOf : Operation → Kind
 kindOf Lui = Worked Plain
 kindOf Auipc = Worked Plain

@@ -1,6 +1,6 @@
 // The operations by their manual names, and the class of each.
 ghost use mathlib.Core.Path.{_≡_};
-ghost use Rattle.isa.specs.Classes.{kindOf, classOf, classNumber};
+ghost use Rattle.isa.specs.Classes.{kindOf, classOf};
 
 #[derive(Clone, Copy)]
 pub enum Operation {
@@ -50,19 +50,6 @@ pub enum Class {
     Multiply,
     Divide,
     Transfer,
-}
-
-impl Class {
-    pub fn number(self) -> u8
-        ensures { λ r. ⌜ r ≡ classNumber self ⌝ }
-    {
-        match self {
-            Class::Plain => 0,
-            Class::Multiply => 1,
-            Class::Divide => 2,
-            Class::Transfer => 3,
-        }
-    }
 }
 
 // Who carries an operation out: a unit of some class, or the machine itself.

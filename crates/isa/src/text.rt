@@ -6,48 +6,50 @@ use crate::instruction::Instruction;
 use crate::operation::Operation;
 use std::fmt;
 
+const MNEMONICS: [&str; 37] = [
+    "lui",
+    "auipc",
+    "jal",
+    "jalr",
+    "beq",
+    "bne",
+    "blt",
+    "bge",
+    "bltu",
+    "bgeu",
+    "addi",
+    "slti",
+    "sltiu",
+    "xori",
+    "ori",
+    "andi",
+    "slli",
+    "srli",
+    "srai",
+    "add",
+    "sub",
+    "sll",
+    "slt",
+    "sltu",
+    "xor",
+    "srl",
+    "sra",
+    "or",
+    "and",
+    "mul",
+    "div",
+    "divu",
+    "rem",
+    "remu",
+    "ecall",
+    "ebreak",
+    "mret",
+];
+
 pub fn mnemonic(operation: Operation) -> &'static str
     ensures { λ r. ⌜ now r ≡ mnemonicOf operation ⌝ }
 {
-    match operation {
-        Operation::Lui => "lui",
-        Operation::Auipc => "auipc",
-        Operation::Jal => "jal",
-        Operation::Jalr => "jalr",
-        Operation::Beq => "beq",
-        Operation::Bne => "bne",
-        Operation::Blt => "blt",
-        Operation::Bge => "bge",
-        Operation::Bltu => "bltu",
-        Operation::Bgeu => "bgeu",
-        Operation::Addi => "addi",
-        Operation::Slti => "slti",
-        Operation::Sltiu => "sltiu",
-        Operation::Xori => "xori",
-        Operation::Ori => "ori",
-        Operation::Andi => "andi",
-        Operation::Slli => "slli",
-        Operation::Srli => "srli",
-        Operation::Srai => "srai",
-        Operation::Add => "add",
-        Operation::Sub => "sub",
-        Operation::Sll => "sll",
-        Operation::Slt => "slt",
-        Operation::Sltu => "sltu",
-        Operation::Xor => "xor",
-        Operation::Srl => "srl",
-        Operation::Sra => "sra",
-        Operation::Or => "or",
-        Operation::And => "and",
-        Operation::Mul => "mul",
-        Operation::Div => "div",
-        Operation::Divu => "divu",
-        Operation::Rem => "rem",
-        Operation::Remu => "remu",
-        Operation::Ecall => "ecall",
-        Operation::Ebreak => "ebreak",
-        Operation::Mret => "mret",
-    }
+    MNEMONICS[operation as usize]
 }
 
 pub impl fmt::Display for Instruction as InstructionDisplay {
@@ -86,42 +88,5 @@ pub impl fmt::Display for Instruction as InstructionDisplay {
             Operation::Ecall | Operation::Ebreak | Operation::Mret => write!(f, "{name}"),
             _ => write!(f, "{name} x{rd}, x{rs1}, x{rs2}"),
         }
-    }
-}
-
-#[cfg(test)]
-mod tests {
-    use super::*;
-    use std::test::*;
-
-    fn check_text(rt: &LibcRuntime, instruction: Instruction, text: &str) -> Result<(), Fail> {
-        let shown = instruction.to_string(rt.alloc())?;
-        check_eq(shown.as_str(), text)
-    }
-
-    #[test]
-    fn assembler_syntax(rt: LibcRuntime) -> Result<(), Fail> {
-        check_text(
-            &rt,
-            Instruction {
-                operation: Operation::Addi,
-                rd: 1,
-                rs1: 0,
-                rs2: 0,
-                immediate: 5,
-            },
-            "addi x1, x0, 5",
-        )?;
-        check_text(
-            &rt,
-            Instruction {
-                operation: Operation::Beq,
-                rd: 0,
-                rs1: 1,
-                rs2: 2,
-                immediate: -8,
-            },
-            "beq x1, x2, -8",
-        )
     }
 }

@@ -17,7 +17,7 @@ use Rattle.isa.specs.declared.operation.Class.{Class}
 use Rattle.isa.specs.declared.outcome.Outcome.{Outcome}
 use Rattle.isa.specs.declared.outcome.Outcome.the-variants.{Done, Misaligned}
 use Rattle.isa.specs.Classes.{classOf}
-use Rattle.isa.specs.Outcomes.{sum, valueOf, targetOf, departs, landed, workedOut, ifClassed, outcomeOf}
+use Rattle.execute.specs.Outcomes.{sum, valueOf, targetOf, departs, landed, workedOut, ifClassed, outcomeOf}
 use Rattle.machine.specs.declared.decode.Decoded.{Decoded}
 use Rattle.machine.specs.declared.decode.Decoded.the-variants.{Trap as AsksTrap, Return as AsksReturn, Work}
 use Rattle.machine.specs.declared.judgement.Judgement.{Judgement}

@@ -14,10 +14,11 @@ use Rattle.isa.specs.declared.operation.Operation.{Operation}
 use Rattle.isa.specs.declared.operation.Operation.the-variants.{Addi, Mul, Div, Rem}
 use Rattle.isa.specs.declared.outcome.Outcome.{Outcome}
 use Rattle.isa.specs.declared.outcome.Outcome.the-variants.{Done, Misaligned}
-use Rattle.isa.specs.declared.words.IllegalWord.{IllegalWord}
-use Rattle.isa.specs.declared.words.WriteFault.{WriteFault}
-use Rattle.isa.specs.Outcomes.{outcomeOf}
-use Rattle.isa.specs.Words.{readWord, writeWord, writeFaultNumber, illegalWordNumber}
+use Rattle.refusal.specs.declared.IllegalWord.{IllegalWord}
+use Rattle.refusal.specs.declared.WriteFault.{WriteFault}
+use Rattle.execute.specs.Outcomes.{outcomeOf}
+use Rattle.words.specs.Words.{readWord, writeWord}
+use Rattle.refusal.specs.Numbers.{writeFaultNumber, illegalWordNumber}
 use Rattle.machine.specs.declared.cause.Cause.{Cause}
 use Rattle.machine.specs.declared.judgement.Judgement.{Judgement}
 use Rattle.machine.specs.declared.judgement.Judgement.the-variants.{Trap, Return, Write}

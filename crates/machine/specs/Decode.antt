@@ -7,12 +7,12 @@ use Rattle.std.specs.declared.option.Option.the-variants.{Some, None}
 use Rattle.std.specs.declared.result.Result.{Result}
 use Rattle.std.specs.declared.result.Result.the-variants.{Ok, Err}
 use Rattle.isa.specs.declared.instruction.Instruction.{Instruction}
-use Rattle.isa.specs.declared.words.IllegalWord.{IllegalWord}
+use Rattle.refusal.specs.declared.IllegalWord.{IllegalWord}
 use Rattle.isa.specs.declared.operation.Class.{Class}
 use Rattle.isa.specs.declared.operation.Kind.{Kind}
 use Rattle.isa.specs.declared.operation.Kind.the-variants.{Worked, EnvironmentCall as Call, Breakpoint as Break, TrapReturn}
 use Rattle.isa.specs.Classes.{kindOf}
-use Rattle.isa.specs.Words.{readWord}
+use Rattle.words.specs.Words.{readWord}
 use Rattle.machine.specs.declared.cause.Cause.the-variants.{AccessFault, IllegalInstruction, Breakpoint, EnvironmentCall}
 use Rattle.machine.specs.declared.decode.Decoded.{Decoded}
 use Rattle.machine.specs.declared.decode.Decoded.the-variants.{Trap, Return, Work}

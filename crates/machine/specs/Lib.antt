@@ -1,6 +1,5 @@
 pub mod Causes
 pub mod Classes
-pub mod Faults
 pub mod Programs
 pub mod Records
 pub mod States

@@ -10,10 +10,10 @@ use Rattle.std.specs.declared.result.Result.the-variants.{Ok, Err}
 use Rattle.machine.specs.declared.program.Program.{Program}
 use Rattle.machine.specs.declared.state.Machine.{Machine}
 use Rattle.machine.specs.declared.state.TrapState.{TrapState}
-use Rattle.machine.specs.declared.fault.LoadFault.{LoadFault}
-use Rattle.machine.specs.declared.fault.LoadFault.the-variants.{Overlong, Skew}
-use Rattle.machine.specs.declared.fault.SkewedAddress.{SkewedAddress}
-use Rattle.machine.specs.declared.fault.NoRegister.{NoRegister}
+use Rattle.refusal.specs.declared.LoadFault.{LoadFault}
+use Rattle.refusal.specs.declared.LoadFault.the-variants.{Overlong, Skew}
+use Rattle.refusal.specs.declared.SkewedAddress.{SkewedAddress}
+use Rattle.refusal.specs.declared.NoRegister.{NoRegister}
 use Rattle.machine.specs.Programs.{noProgram, programOf}
 
 abbrev pub aligned : ℕ → Bool

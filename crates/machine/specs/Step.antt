@@ -10,7 +10,7 @@ use Rattle.isa.specs.declared.instruction.Instruction.{Instruction}
 use Rattle.isa.specs.declared.operation.Class.{Class}
 use Rattle.isa.specs.declared.outcome.Outcome.{Outcome}
 use Rattle.isa.specs.declared.outcome.Outcome.the-variants.{Done, Misaligned}
-use Rattle.isa.specs.Outcomes.{outcomeOf}
+use Rattle.execute.specs.Outcomes.{outcomeOf}
 use Rattle.machine.specs.declared.cause.Cause.{Cause}
 use Rattle.machine.specs.declared.cause.Cause.the-variants.{MisalignedTarget, IllegalInstruction}
 use Rattle.machine.specs.declared.decode.Decoded.{Decoded}

@@ -6,7 +6,7 @@ use crate::cause::Cause;
 use crate::classes::Classes;
 use isa::instruction::Instruction;
 use isa::operation::Kind;
-use isa::words::read;
+use words::read;
 
 #[derive(Clone, Copy)]
 pub enum Decoded {

@@ -3,10 +3,10 @@
 //   cases     the worked cases, as one statement about the definitions
 //   cause     why an instruction traps
 //   classes   the classes of instructions that the units serve
-//   fault     what load, reads and writes refuse
 //   program   the table of program words
 //   record    what one step did
-//   state     registers, pc, trap state and program: made, loaded, read and written
+//   state     registers, pc, trap state and program: made, loaded and written
+//   reads     what can be read of them
 //   decode    what the word at pc asks for
 //   judgement what an instruction does to the state
 //   step      one step: judge the instruction at pc, then apply the judgement to the state
@@ -14,9 +14,9 @@ pub mod cases;
 pub mod cause;
 pub mod classes;
 pub mod decode;
-pub mod fault;
 pub mod judgement;
 pub mod program;
+mod reads;
 pub mod record;
 pub mod state;
 pub mod step;

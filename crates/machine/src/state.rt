@@ -1,9 +1,9 @@
-// The state of the machine: made, loaded, read and written.
+// The state of the machine: made, loaded and written.
 ghost use mathlib.Core.Path.{_≡_};
-ghost use Rattle.machine.specs.States.{fresh, loadAnswer, loadState, registerOf, registerAnswer, writeRegisterAnswer, writeRegisterState, writePcAnswer, writePcState};
-use crate::fault::LoadFault;
-use crate::fault::NoRegister;
-use crate::fault::SkewedAddress;
+ghost use Rattle.machine.specs.States.{fresh, loadAnswer, loadState, writeRegisterAnswer, writeRegisterState, writePcAnswer, writePcState};
+use refusal::LoadFault;
+use refusal::NoRegister;
+use refusal::SkewedAddress;
 use crate::program::Program;
 
 // The words and bits besides registers, pc and program.
@@ -59,16 +59,6 @@ impl Machine {
         Ok(())
     }
 
-    pub fn register(&self, number: u8) -> Result<u32, NoRegister>
-        ensures { λ r. ⌜ r ≡ registerAnswer (now (self .entry)) number ⌝ }
-    {
-        if number < 32 {
-            Ok(self.registers[usize::from(number)])
-        } else {
-            Err(NoRegister { register: number })
-        }
-    }
-
     pub fn write_register(&mut self, number: u8, value: u32) -> Result<(), NoRegister>
         ensures answer { λ r. ⌜ r ≡ writeRegisterAnswer number ⌝ }
         ensures state { λ _. ⌜ now (self .exit) ≡ writeRegisterState number value (now (self .entry)) ⌝ }
@@ -82,12 +72,6 @@ impl Machine {
         Ok(())
     }
 
-    pub fn pc(&self) -> u32
-        ensures { λ r. ⌜ r ≡ now (self .entry) .pc ⌝ }
-    {
-        self.pc
-    }
-
     pub fn write_pc(&mut self, address: u32) -> Result<(), SkewedAddress>
         ensures answer { λ r. ⌜ r ≡ writePcAnswer address ⌝ }
         ensures state { λ _. ⌜ now (self .exit) ≡ writePcState address (now (self .entry)) ⌝ }
@@ -97,11 +81,5 @@ impl Machine {
         }
         self.pc = address;
         Ok(())
-    }
-
-    pub fn trap_state(&self) -> TrapState
-        ensures { λ r. ⌜ r ≡ now (self .entry) .trap ⌝ }
-    {
-        self.trap
     }
 }

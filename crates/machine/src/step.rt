@@ -15,6 +15,7 @@ use crate::record::Record;
 use crate::record::Retirement;
 use crate::state::Machine;
 use crate::state::TrapState;
+use execute::outcome;
 use isa::outcome::Outcome;
 
 const EXTERNAL_INTERRUPT: u32 = 0x8000_000b;
@@ -70,7 +71,7 @@ impl Machine {
             Decoded::Work(instruction) => {
                 let a = operand(&self.registers, instruction.rs1);
                 let b = operand(&self.registers, instruction.rs2);
-                judge_outcome(instruction.rd, instruction.outcome(self.pc, a, b))
+                judge_outcome(instruction.rd, outcome(instruction, self.pc, a, b))
             }
         }
     }

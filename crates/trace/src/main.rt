@@ -1,6 +1,7 @@
 // Runs a program on the sequential machine and writes what its instructions did.
 use console::faults::OptionFaultDisplay;
 use console::faults::ProgramFaultDisplay;
+use console::options::BadArgument;
 use console::options::Options;
 use console::options::Report;
 use console::options::parse_options;
@@ -13,6 +14,7 @@ use console::summary::SummaryDisplay;
 use console::table;
 use machine::fault::LoadFaultDisplay;
 use machine::state::Machine;
+use std::alloc::AllocError;
 use std::env;
 use std::error::AnyError;
 use std::io;
@@ -27,21 +29,31 @@ fn flush(rt: &LibcRuntime, page: &mut String) -> io::Result<()> {
     Ok(())
 }
 
-fn options_of(rt: &LibcRuntime) -> Result<Options, AnyError> {
+fn argument_line(
+    rt: &LibcRuntime,
+    texts: &[String],
+    bad: BadArgument,
+) -> Result<String, AllocError> {
+    let BadArgument { place, fault } = bad;
+    match texts.get(place.saturating_sub(1)) {
+        Some(text) => format!(rt.alloc(), "argument {place}, `{text}`: {fault}"),
+        None => format!(rt.alloc(), "argument {place}: {fault}"),
+    }
+}
+
+fn arguments(rt: &LibcRuntime) -> Result<Vec<String>, AnyError> {
     let mut texts = Vec::new(rt.alloc());
     for text in env::args(rt)?.skip(1) {
         texts.push(text)?;
     }
+    Ok(texts)
+}
+
+fn options_of(rt: &LibcRuntime) -> Result<Options, AnyError> {
+    let texts = arguments(rt)?;
     match parse_options(rt.alloc(), texts.as_slice()) {
         Ok(options) => Ok(options),
-        Err(bad) => {
-            let text = match texts.get(bad.place.saturating_sub(1)) {
-                Some(text) => text.as_str(),
-                None => "",
-            };
-            let line = format!(rt.alloc(), "argument {} `{text}`: {}", bad.place, bad.fault)?;
-            Err(line.into())
-        }
+        Err(bad) => Err(argument_line(rt, texts.as_slice(), bad)?.into()),
     }
 }
 
