@@ -2,7 +2,7 @@
 use crate::hex::Hex8;
 use crate::hex::Hex8Display;
 use isa::text::InstructionDisplay;
-use isa::words::read;
+use words::read;
 use machine::record::Record;
 use machine::record::Retirement;
 use std::alloc::AllocError;

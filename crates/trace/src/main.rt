@@ -12,7 +12,7 @@ use console::session::Session;
 use console::summary::Summary;
 use console::summary::SummaryDisplay;
 use console::table;
-use machine::fault::LoadFaultDisplay;
+use refusal::LoadFaultDisplay;
 use machine::state::Machine;
 use std::alloc::AllocError;
 use std::env;
