@@ -3,3 +3,5 @@ mod Stands
 mod TextLines
 mod Names
 mod Arguments
+mod FaultTexts
+mod RowTexts

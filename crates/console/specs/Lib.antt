@@ -7,3 +7,5 @@ pub mod Schedule
 pub mod Counts
 pub mod ProgramText
 pub mod Settings
+pub mod FaultLines
+pub mod Rows

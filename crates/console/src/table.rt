@@ -1,17 +1,24 @@
 // Records as a table for people: one row a retirement.
+ghost use mathlib.Core.Path.{_≡_};
+ghost use mathlib.Core.List.{_++_};
+ghost use Rattle.std.specs.Of.String.{string-bytes};
+ghost use Rattle.std.specs.Vec.{made};
+ghost use Rattle.console.specs.Rows.{causeName, instructionText, effectText, blanks, leftIn, rightIn, rowText};
 use crate::hex::Hex8;
 use crate::hex::Hex8Display;
 use isa::text::InstructionDisplay;
-use words::read;
 use machine::record::Record;
 use machine::record::Retirement;
 use std::alloc::AllocError;
 use std::alloc::Global;
+use words::read;
 
 pub const HEADING: &str =
     "      #  pc        word      instruction             effect                       next";
 
-fn cause_name(cause: u32) -> &'static str {
+fn cause_name(cause: u32) -> &'static str
+    ensures { λ r. ⌜ now r ≡ causeName cause ⌝ }
+{
     match cause {
         0 => "misaligned target",
         1 => "access fault",
@@ -22,45 +29,71 @@ fn cause_name(cause: u32) -> &'static str {
     }
 }
 
-// A trap for an access fault had no word to read.
-fn instruction_text(heap: Global, record: Record) -> Result<String, AllocError> {
-    let fetched = match record.outcome {
-        Retirement::Trapped => record.value != 1,
-        _ => true,
-    };
+fn instruction_text(heap: Global, record: Record) -> Result<String, AllocError>
+    ensures { λ r. ⌜ made r (λ s. string-bytes s ≡ instructionText «record») ⌝ }
+{
+    // a trap for an access fault had no word to read
+    if let Retirement::Trapped = record.outcome
+        && record.value == 1
+    {
+        return String::from_str(heap, "no word");
+    }
     match read(record.word) {
-        Ok(instruction) if fetched => instruction.to_string(heap),
-        Err(_) if fetched => String::from_str(heap, "illegal word"),
-        _ => String::from_str(heap, "no word"),
+        Ok(instruction) => instruction.to_string(heap),
+        Err(_) => String::from_str(heap, "illegal word"),
     }
 }
 
-fn written_text(heap: Global, record: Record) -> Result<String, AllocError> {
-    if record.destination == 0 {
-        return Ok(String::new(heap));
-    }
-    format!(heap, "x{} = {}", record.destination, Hex8(record.value))
-}
-
-fn effect_text(heap: Global, record: Record) -> Result<String, AllocError> {
+fn effect_text(heap: Global, record: Record) -> Result<String, AllocError>
+    ensures { λ r. ⌜ made r (λ s. string-bytes s ≡ effectText «record») ⌝ }
+{
+    let register = record.destination;
+    let value = Hex8(record.value);
     match record.outcome {
-        Retirement::Plain => written_text(heap, record),
+        Retirement::Plain if register == 0 => Ok(String::new(heap)),
+        Retirement::Plain => format!(heap, "x{register} = {value}"),
         Retirement::Trapped => {
             format!(heap, "trap {}, {}", record.value, cause_name(record.value))
         }
-        Retirement::Interrupted => {
-            let written = written_text(heap, record)?;
-            let between = if written.is_empty() { "" } else { ", " };
-            format!(heap, "{written}{between}interrupt")
-        }
+        Retirement::Interrupted if register == 0 => String::from_str(heap, "interrupt"),
+        Retirement::Interrupted => format!(heap, "x{register} = {value}, interrupt"),
     }
 }
 
-pub fn row(heap: Global, number: u64, record: Record) -> Result<String, AllocError> {
-    let instruction = instruction_text(heap, record)?;
-    let effect = effect_text(heap, record)?;
+fn push_blanks(text: &mut String, count: usize) -> Result<(), AllocError>
+    ensures { λ r. ⌜ made r (λ _. string-bytes (now (text .exit)) ≡ string-bytes (now (text .entry)) ++ blanks count) ⌝ }
+{
+    for _i in 0..count {
+        text.push(' ')?;
+    }
+    Ok(())
+}
+
+fn left_in(width: usize, mut text: String) -> Result<String, AllocError>
+    ensures { λ r. ⌜ made r (λ s. string-bytes s ≡ leftIn width (string-bytes text)) ⌝ }
+{
+    let count = width.saturating_sub(text.len());
+    push_blanks(&mut text, count)?;
+    Ok(text)
+}
+
+fn right_in(heap: Global, width: usize, text: String) -> Result<String, AllocError>
+    ensures { λ r. ⌜ made r (λ s. string-bytes s ≡ rightIn width (string-bytes text)) ⌝ }
+{
+    let mut column = String::new(heap);
+    push_blanks(&mut column, width.saturating_sub(text.len()))?;
+    column.push_str(text.as_str())?;
+    Ok(column)
+}
+
+pub fn row(heap: Global, number: u64, record: Record) -> Result<String, AllocError>
+    ensures { λ r. ⌜ made r (λ s. string-bytes s ≡ rowText number «record») ⌝ }
+{
+    let place = right_in(heap, 7, number.to_string(heap)?)?;
+    let instruction = left_in(22, instruction_text(heap, record)?)?;
+    let effect = left_in(27, effect_text(heap, record)?)?;
     let pc = Hex8(record.pc);
     let word = Hex8(record.word);
     let next = Hex8(record.next);
-    format!(heap, "{number:>7}  {pc}  {word}  {instruction:<22}  {effect:<27}  {next}")
+    format!(heap, "{place}  {pc}  {word}  {instruction}  {effect}  {next}")
 }
