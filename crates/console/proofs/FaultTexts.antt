@@ -1,25 +1,22 @@
 -- The lines of faults and the names of causes, case by case.
 -- Assumes nothing.
 use mathlib.Core.Path.{_≡_}
+use mathlib.Core.Bool.{true, false}
 use mathlib.Core.List.{_++_}
-use Prim.Native.Nat.{ℕ, _≤_, _<_}
+use Prim.Native.Nat.{ℕ}
 use lib.Chars.{codes}
-use lib.Dec.{eqb, ltb}
 use lib.Utf8.{encode}
 use Rattle.std.specs.Written.{decimal}
-use Rattle.std.proofs.shelf.Tests.{cond-true, cond-false, lt-ltb, le-ltb, ne-eqb, and-from, and-left, and-right}
+use Rattle.std.proofs.shelf.Tests.{cond-true, cond-false, ne-eqb}
 use Rattle.console.specs.declared.lines.WordFault.the-variants.{NotHex}
-use Rattle.console.specs.FaultLines.{wordFaultLine}
+use Rattle.console.specs.FaultLines.{visible, wordFaultLine}
 use Rattle.console.specs.Rows.{causeName}
 
-pub printing : (b : ℕ) → 32 < b → b < 127 → wordFaultLine (NotHex b) ≡ codes "`" ++ (encode b ++ codes "` is no hex digit")
-printing b l h = cond-true _ _ _ (and-from (ltb 32 b) (ltb b 127) (lt-ltb 32 b l) (lt-ltb b 127 h))
+pub seen : (b : ℕ) → visible b ≡ true → wordFaultLine (NotHex b) ≡ codes "`" ++ (encode b ++ codes "` is no hex digit")
+seen b e = cond-true _ _ _ e
 
-pub control : (b : ℕ) → b ≤ 32 → wordFaultLine (NotHex b) ≡ codes "byte " ++ (decimal b ++ codes " is no hex digit")
-control b l = cond-false _ _ _ (and-left (ltb 32 b) (ltb b 127) (le-ltb 32 b l))
-
-pub foreign : (b : ℕ) → 127 ≤ b → wordFaultLine (NotHex b) ≡ codes "byte " ++ (decimal b ++ codes " is no hex digit")
-foreign b h = cond-false _ _ _ (and-right (ltb 32 b) (ltb b 127) (le-ltb b 127 h))
+pub unseen : (b : ℕ) → visible b ≡ false → wordFaultLine (NotHex b) ≡ codes "byte " ++ (decimal b ++ codes " is no hex digit")
+unseen b e = cond-false _ _ _ e
 
 pub unknown-cause : (c : ℕ) → (c ≡ 0 → ⊥) → (c ≡ 1 → ⊥) → (c ≡ 2 → ⊥) → (c ≡ 3 → ⊥) → (c ≡ 11 → ⊥) → causeName c ≡ codes "unknown cause"
 unknown-cause c n0 n1 n2 n3 n11 =

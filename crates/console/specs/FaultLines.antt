@@ -2,7 +2,7 @@
 -- Of the library: `codes` is a text's bytes, `encode` a character's, and `decimal` a number's digits.
 -- Assumes nothing.
 use Prim.Native.Nat.{ℕ}
-use mathlib.Core.Bool.{cond, _&&_}
+use mathlib.Core.Bool.{Bool, cond, _&&_}
 use mathlib.Core.List.{List, _++_}
 use lib.Chars.{codes}
 use lib.Dec.{ltb}
@@ -17,10 +17,13 @@ use Rattle.console.specs.declared.options.OptionFault.the-variants.{Unknown, N
 use Rattle.console.specs.declared.program.ProgramFault.{ProgramFault}
 use Rattle.console.specs.declared.program.ProgramFault.the-variants.{BadLine, NoMemory}
 
--- a byte that prints is shown as its character
+abbrev pub visible : ℕ → Bool
+visible b = ltb 32 b && ltb b 127
+
+-- a visible byte is shown as its character
 abbrev pub wordFaultLine : WordFault → List ℕ
 wordFaultLine (NotHex b) =
-    cond (ltb 32 b && ltb b 127)
+    cond (visible b)
     (codes "`" ++ (encode b ++ codes "` is no hex digit"))
     (codes "byte " ++ (decimal b ++ codes " is no hex digit"))
 wordFaultLine TooWide = codes "more than eight hex digits"

@@ -8,4 +8,6 @@ pub mod Counts
 pub mod ProgramText
 pub mod Settings
 pub mod FaultLines
+pub mod Columns
 pub mod Rows
+pub mod Summaries

@@ -1,12 +1,11 @@
 -- A record as a row of a table: its number, pc, word, instruction, effect and next.
 -- Of the library: `codes` is a text's bytes, and `decimal` a number's digits.
 -- Assumes nothing.
-use Prim.Native.Nat.{ℕ, _-_}
+use Prim.Native.Nat.{ℕ}
 use mathlib.Core.Bool.{Bool, true, not, cond}
-use mathlib.Core.List.{List, [], _∷_, _++_}
+use mathlib.Core.List.{List, [], _++_}
 use lib.Chars.{codes}
 use lib.Dec.{eqb}
-use lib.ListN.{length, replicate}
 use Rattle.std.specs.Written.{decimal}
 use Rattle.std.specs.declared.result.Result.{Result}
 use Rattle.std.specs.declared.result.Result.the-variants.{Ok, Err}
@@ -17,6 +16,7 @@ use Rattle.words.specs.Words.{readWord}
 use Rattle.machine.specs.declared.record.Record.{Record}
 use Rattle.machine.specs.declared.record.Retirement.{Retirement}
 use Rattle.machine.specs.declared.record.Retirement.the-variants.{Plain, Trapped, Interrupted}
+use Rattle.console.specs.Columns.{leftIn, rightIn}
 use Rattle.console.specs.Hex.{hex8}
 
 abbrev pub causeName : ℕ → List ℕ
@@ -52,16 +52,6 @@ effectOf Interrupted d v = cond (eqb d 0) (codes "interrupt") (writtenText d v (
 
 abbrev pub effectText : Record → List ℕ
 effectText r = effectOf (r .outcome) (r .destination) (r .value)
-
-abbrev pub blanks : ℕ → List ℕ
-blanks n = replicate n 32
-
--- a text at the left or the right of a column
-abbrev pub leftIn : ℕ → List ℕ → List ℕ
-leftIn w t = t ++ blanks (w - length t)
-
-abbrev pub rightIn : ℕ → List ℕ → List ℕ
-rightIn w t = blanks (w - length t) ++ t
 
 abbrev pub rowText : ℕ → Record → List ℕ
 rowText n r =

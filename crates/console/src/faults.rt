@@ -1,11 +1,18 @@
 // Faults in a line for people.
+ghost use mathlib.Core.Path.{_≡_};
 ghost use Rattle.std.specs.declared.option.Option.the-variants.{Some};
-ghost use Rattle.console.specs.FaultLines.{wordFaultLine, programFaultLine, numberFaultLine, optionFaultLine};
+ghost use Rattle.console.specs.FaultLines.{visible, wordFaultLine, programFaultLine, numberFaultLine, optionFaultLine};
 use crate::lines::WordFault;
 use crate::numbers::NumberFault;
 use crate::options::OptionFault;
 use crate::program::ProgramFault;
 use std::fmt;
+
+fn is_visible(byte: u8) -> bool
+    ensures { λ r. ⌜ r ≡ visible byte ⌝ }
+{
+    byte > 32 && byte < 127
+}
 
 pub impl fmt::Display for WordFault as WordFaultDisplay {
     ghost shown = { λ e. Some (wordFaultLine e) };
@@ -13,7 +20,7 @@ pub impl fmt::Display for WordFault as WordFaultDisplay {
     fn fmt<W: fmt::Write>(&self, f: &mut fmt::Formatter<W>) -> fmt::Result {
         match *self {
             WordFault::NotHex(byte) => {
-                if byte > 32 && byte < 127 {
+                if is_visible(byte) {
                     write!(f, "`{}` is no hex digit", char::from(byte))
                 } else {
                     write!(f, "byte {byte} is no hex digit")

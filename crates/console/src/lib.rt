@@ -8,11 +8,13 @@
 //   faults     faults in a line for people
 //   hex        a word as eight hex digits
 //   records    a record as a line for other programs
+//   columns    texts in columns
 //   table      records as a table for people
 //   schedule   how the interrupt line stands over a run
 //   counts     how many instructions retired in each way
 //   session    a run of the sequential machine
 //   summary    what a run came to, for people
+pub mod columns;
 pub mod counts;
 pub mod digits;
 pub mod faults;

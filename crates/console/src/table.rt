@@ -1,9 +1,10 @@
 // Records as a table for people: one row a retirement.
 ghost use mathlib.Core.Path.{_≡_};
-ghost use mathlib.Core.List.{_++_};
 ghost use Rattle.std.specs.Of.String.{string-bytes};
 ghost use Rattle.std.specs.Vec.{made};
-ghost use Rattle.console.specs.Rows.{causeName, instructionText, effectText, blanks, leftIn, rightIn, rowText};
+ghost use Rattle.console.specs.Rows.{causeName, instructionText, effectText, rowText};
+use crate::columns::left_in;
+use crate::columns::right_in;
 use crate::hex::Hex8;
 use crate::hex::Hex8Display;
 use isa::text::InstructionDisplay;
@@ -58,32 +59,6 @@ fn effect_text(heap: Global, record: Record) -> Result<String, AllocError>
         Retirement::Interrupted if register == 0 => String::from_str(heap, "interrupt"),
         Retirement::Interrupted => format!(heap, "x{register} = {value}, interrupt"),
     }
-}
-
-fn push_blanks(text: &mut String, count: usize) -> Result<(), AllocError>
-    ensures { λ r. ⌜ made r (λ _. string-bytes (now (text .exit)) ≡ string-bytes (now (text .entry)) ++ blanks count) ⌝ }
-{
-    for _i in 0..count {
-        text.push(' ')?;
-    }
-    Ok(())
-}
-
-fn left_in(width: usize, mut text: String) -> Result<String, AllocError>
-    ensures { λ r. ⌜ made r (λ s. string-bytes s ≡ leftIn width (string-bytes text)) ⌝ }
-{
-    let count = width.saturating_sub(text.len());
-    push_blanks(&mut text, count)?;
-    Ok(text)
-}
-
-fn right_in(heap: Global, width: usize, text: String) -> Result<String, AllocError>
-    ensures { λ r. ⌜ made r (λ s. string-bytes s ≡ rightIn width (string-bytes text)) ⌝ }
-{
-    let mut column = String::new(heap);
-    push_blanks(&mut column, width.saturating_sub(text.len()))?;
-    column.push_str(text.as_str())?;
-    Ok(column)
 }
 
 pub fn row(heap: Global, number: u64, record: Record) -> Result<String, AllocError>

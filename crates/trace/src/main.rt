@@ -9,8 +9,7 @@ use console::program::parse_program;
 use console::records::RecordLine;
 use console::records::RecordLineDisplay;
 use console::session::Session;
-use console::summary::Summary;
-use console::summary::SummaryDisplay;
+use console::summary::summary_text;
 use console::table;
 use refusal::LoadFaultDisplay;
 use machine::state::Machine;
@@ -105,8 +104,14 @@ fn run(rt: &LibcRuntime) -> Result<(), AnyError> {
     run_session(rt, &options, &mut session, &mut page)?;
     match options.report {
         Report::Records => {}
-        Report::Table => writeln!(page, "\n{}", Summary { session: &session, cycles: session.retired })?,
-        Report::Summary => writeln!(page, "{}", Summary { session: &session, cycles: session.retired })?,
+        Report::Table => {
+            let summary = summary_text(rt.alloc(), &session, session.retired)?;
+            write!(page, "\n{summary}")?
+        }
+        Report::Summary => {
+            let summary = summary_text(rt.alloc(), &session, session.retired)?;
+            page.push_str(summary.as_str())?
+        }
     }
     flush(rt, &mut page)?;
     Ok(())
