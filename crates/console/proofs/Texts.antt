@@ -146,3 +146,6 @@ pub mark-here : (bs : List ℕ) → getD bs 0 0 ≡ 48 → getD bs 1 0 ≡ 120 �
 mark-here bs p q =
     cond-true (hexMark bs) (Some (drop 2 bs)) None
     (and-from (eqb (getD bs 0 0) 48) (eqb (getD bs 1 0) 120) (eq-eqb (getD bs 0 0) 48 p) (eq-eqb (getD bs 1 0) 120 q))
+
+pub same-inside : {x y : ℕ} → Some x ≡ Some y → x ≡ y
+same-inside e = cc

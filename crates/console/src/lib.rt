@@ -28,3 +28,5 @@ pub mod schedule;
 pub mod session;
 pub mod summary;
 pub mod table;
+#[cfg(test)]
+mod tests;

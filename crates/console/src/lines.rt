@@ -61,8 +61,11 @@ fn parse_hex_word(text: &[u8]) -> Result<u32, WordFault>
         return Err(WordFault::TooWide);
     }
     match digits::value(16, text) {
-        Some(word) if word <= 0xffff_ffff => Ok(word as u32),
-        _ => Err(WordFault::TooWide),
+        Some(word) => match u32::try_from(word) {
+            Ok(word) => Ok(word),
+            Err(_) => Err(WordFault::TooWide),
+        },
+        None => Err(WordFault::TooWide),
     }
 }
 

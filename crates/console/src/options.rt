@@ -137,7 +137,11 @@ impl Options {
     }
 
     // One text of the argument list, after an argument that waits for its number, if any does.
-    fn take(&mut self, waiting: Option<Argument>, text: &str) -> Result<Option<Argument>, OptionFault>
+    fn take(
+        &mut self,
+        waiting: Option<Argument>,
+        text: &str,
+    ) -> Result<Option<Argument>, OptionFault>
         ensures { λ r. ⌜ Cases r (λ a. taken waiting (now (text .entry)) (settingsOf (now (self .entry))) ≡ Ok (settingsOf (now (self .exit)), a)) (λ e. (e ≡ NoMemory) ⊎ (taken waiting (now (text .entry)) (settingsOf (now (self .entry))) ≡ Err e)) ⌝ }
     {
         match waiting {
@@ -169,7 +173,10 @@ pub fn parse_options(heap: Global, texts: &[String]) -> Result<Options, BadArgum
     for (i, text) in texts.iter().enumerate() {
         match options.take(waiting, text.as_str()) {
             Ok(next) => waiting = next,
-            Err(fault) => return Err(BadArgument { place: i + 1, fault }),
+            Err(fault) => return Err(BadArgument {
+                place: i + 1,
+                fault,
+            }),
         }
     }
     match waiting {

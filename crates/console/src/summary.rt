@@ -49,7 +49,10 @@ fn cycle_lines(heap: Global, cycles: u64, retired: u64) -> Result<String, AllocE
     ensures { λ r. ⌜ made r (λ s. string-bytes s ≡ cycleLines cycles retired) ⌝ }
 {
     let rate = rate_text(heap, cycles, retired)?;
-    format!(heap, "cycles              {cycles}\ncycles/instruction  {rate}\n")
+    format!(
+        heap,
+        "cycles              {cycles}\ncycles/instruction  {rate}\n"
+    )
 }
 
 fn place_lines(heap: Global, pc: u32, trap: TrapState) -> Result<String, AllocError>
@@ -70,7 +73,10 @@ fn trap_lines(heap: Global, trap: TrapState) -> Result<String, AllocError>
     let mie = u8::from(trap.mie);
     let mpie = u8::from(trap.mpie);
     let vector = Hex8(trap.vector);
-    format!(heap, "mie, mpie           {mie}, {mpie}\nvector              {vector}\n")
+    format!(
+        heap,
+        "mie, mpie           {mie}, {mpie}\nvector              {vector}\n"
+    )
 }
 
 // A register that is 0 has no line.

@@ -70,5 +70,8 @@ pub fn row(heap: Global, number: u64, record: Record) -> Result<String, AllocErr
     let pc = Hex8(record.pc);
     let word = Hex8(record.word);
     let next = Hex8(record.next);
-    format!(heap, "{place}  {pc}  {word}  {instruction}  {effect}  {next}")
+    format!(
+        heap,
+        "{place}  {pc}  {word}  {instruction}  {effect}  {next}"
+    )
 }

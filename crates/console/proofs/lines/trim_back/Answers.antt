@@ -20,6 +20,6 @@ pub returns : need.returns
 returns c =
     rw sub-zero
     (elim (c .loop-end-test .came) [
-      then-loop-end-test·else-is-blank w ↦ sym (trimmedBack-here (c .args .text .now) (c .loop-end .end) (w .loop-end-test .taken) (c .loop-end .inv .0) (sym (w .if-is-blank .ensures tt))) ∙ c .loop-end .inv .1
-    | else-loop-end-test w ↦ sym (trimmedBack-none (c .args .text .now) (c .loop-end .end) (w .loop-end-test .left)) ∙ c .loop-end .inv .1
+      | then-loop-end-test·else-is-blank w ↦ sym (trimmedBack-here (c .args .text .now) (c .loop-end .end) (w .loop-end-test .taken) (c .loop-end .inv .0) (sym (w .if-is-blank .ensures tt))) ∙ c .loop-end .inv .1
+      | else-loop-end-test w ↦ sym (trimmedBack-none (c .args .text .now) (c .loop-end .end) (w .loop-end-test .left)) ∙ c .loop-end .inv .1
     ])

@@ -14,6 +14,6 @@ pub returns : need.returns
 returns c =
     take-rest (c .args .text .now) (c .loop-start .start)
     ∙ elim (c .loop-start-test .came) [
-      then-loop-start-test·else-is-blank w ↦ sym (trimmedFront-here (c .args .text .now) (c .loop-start .start) (w .loop-start-test .taken) (sym (w .if-is-blank .ensures tt))) ∙ c .loop-start .inv .1
-    | else-loop-start-test w ↦ sym (trimmedFront-all (c .args .text .now) (c .loop-start .start) (w .loop-start-test .left)) ∙ c .loop-start .inv .1
+      | then-loop-start-test·else-is-blank w ↦ sym (trimmedFront-here (c .args .text .now) (c .loop-start .start) (w .loop-start-test .taken) (sym (w .if-is-blank .ensures tt))) ∙ c .loop-start .inv .1
+      | else-loop-start-test w ↦ sym (trimmedFront-all (c .args .text .now) (c .loop-start .start) (w .loop-start-test .left)) ∙ c .loop-start .inv .1
     ]

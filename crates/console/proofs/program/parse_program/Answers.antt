@@ -32,9 +32,10 @@ loop-rest-again c =
     let some : 0 < length (c .loop-rest .rest .now) = omega (arith, eqb-false (length (c .loop-rest .rest .now)) 0 (sym (c .is-empty .ensures) ∙ c .loop-rest-test .taken)) in
     let rest : c .after-line-rest .result .now ≡ afterFirst (c .loop-rest .rest .now) = c .after-line-rest .ensures ∙ ap (λ l. drop (length l + 1) (c .loop-rest .rest .now)) (c .text-before-line .ensures) in
     let here = ap (λ l. wordsOfLine (c .loop-rest .number) (lineWord l)) (c .text-before-line .ensures) in
-    let t = c .in-Continue-take-line .ensures tt in
-    (omega (arith, ap length rest, shorter (c .loop-rest .rest .now) some, c .loop-rest .inv .0),
-      rw rest (line-taken (c .args .text .now) (vec-items (c .loop-rest .words)) (c .loop-rest .number) (c .loop-rest .rest .now) (c .loop-rest .inv .1) some (t .0) (vec-items (c .take-line .last .words)) (sym here ∙ t .1) (t .2)))
+    let t = c .in-Continue-take-line .ensures tt in (
+      omega (arith, ap length rest, shorter (c .loop-rest .rest .now) some, c .loop-rest .inv .0),
+      rw rest (line-taken (c .args .text .now) (vec-items (c .loop-rest .words)) (c .loop-rest .number) (c .loop-rest .rest .now) (c .loop-rest .inv .1) some (t .0) (vec-items (c .take-line .last .words)) (sym here ∙ t .1) (t .2)),
+    )
 
 pub returns : need.returns
 returns c =

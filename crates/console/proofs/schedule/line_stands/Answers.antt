@@ -18,20 +18,20 @@ loop-event-again c =
     let e : LineEvent = getD (c .args .events .now) (c .loop-event .event-index) none in
     let inv = c .loop-event .inv in
     elim (c .if-event-retired .came) [
-      then-event-retired·then-since-event w ↦
-        let same = w .since-is in
-        let set = w .line-is in
-        let on = stands-newer (c .args .retired) (c .loop-event .since) (c .loop-event .line) (c .args .events .now) (c .loop-event .event-index) none (c .loop-event-test .taken) (w .if-event-retired .taken) (w .if-since-event .taken) in
-        cc
-    | else-event-retired w ↦
-      let same = w .since-is in
-      let kept = w .line-is in
-      let older : overrides (c .args .retired) (c .loop-event .since) e ≡ false = elim (w .else-event-retired .came) [
-        else-event-retired·by·then-event-retired·else-since-event w′ ↦ and-right (leb (e .after) (c .args .retired)) (leb (c .loop-event .since) (e .after)) (lt-leb (c .loop-event .since) (e .after) (w′ .if-since-event .left))
-      | else-event-retired·by·else-event-retired w′ ↦ and-left (leb (e .after) (c .args .retired)) (leb (c .loop-event .since) (e .after)) (lt-leb (e .after) (c .args .retired) (w′ .if-event-retired .left))
-      ] in
-      let on = stands-older (c .args .retired) (c .loop-event .since) (c .loop-event .line) (c .args .events .now) (c .loop-event .event-index) none (c .loop-event-test .taken) older in
-      cc
+      | then-event-retired·then-since-event w ↦
+          let same = w .since-is in
+          let set = w .line-is in
+          let on = stands-newer (c .args .retired) (c .loop-event .since) (c .loop-event .line) (c .args .events .now) (c .loop-event .event-index) none (c .loop-event-test .taken) (w .if-event-retired .taken) (w .if-since-event .taken) in
+          cc
+      | else-event-retired w ↦
+          let same = w .since-is in
+          let kept = w .line-is in
+          let older : overrides (c .args .retired) (c .loop-event .since) e ≡ false = elim (w .else-event-retired .came) [
+            | else-event-retired·by·then-event-retired·else-since-event w′ ↦ and-right (leb (e .after) (c .args .retired)) (leb (c .loop-event .since) (e .after)) (lt-leb (c .loop-event .since) (e .after) (w′ .if-since-event .left))
+            | else-event-retired·by·else-event-retired w′ ↦ and-left (leb (e .after) (c .args .retired)) (leb (c .loop-event .since) (e .after)) (lt-leb (e .after) (c .args .retired) (w′ .if-event-retired .left))
+          ] in
+          let on = stands-older (c .args .retired) (c .loop-event .since) (c .loop-event .line) (c .args .events .now) (c .loop-event .event-index) none (c .loop-event-test .taken) older in
+          cc
     ]
 
 pub returns : need.returns
