@@ -157,3 +157,30 @@ mod machine_steps {
         check(machine.write_pc(2).is_err())
     }
 }
+
+#[cfg(test)]
+mod arguments_and_texts {
+    use console::lines::WordFault;
+    use console::options::OptionFault;
+    use console::options::parse_options;
+    use console::program::ProgramFault;
+    use console::program::parse_program;
+    use std::test::*;
+
+    #[test]
+    fn word_with_a_stranger(rt: LibcRuntime) -> Result<(), Fail> {
+        let read = parse_program(rt.alloc(), b"13\n 12g4 # no word\n");
+        check(matches!(read, Err(ProgramFault::BadLine(2, WordFault::NotHex(b'g')))))
+    }
+
+    #[test]
+    fn unknown_argument(rt: LibcRuntime) -> Result<(), Fail> {
+        let mut texts = Vec::new(rt.alloc());
+        texts.push(String::from_str(rt.alloc(), "--records")?)?;
+        texts.push(String::from_str(rt.alloc(), "--record")?)?;
+        match parse_options(rt.alloc(), texts.as_slice()) {
+            Ok(_) => Err(Fail::new("it was taken")),
+            Err(bad) => check(bad.place == 2 && matches!(bad.fault, OptionFault::Unknown)),
+        }
+    }
+}
