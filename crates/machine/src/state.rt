@@ -1,10 +1,10 @@
 // The state of the machine: made, loaded and written.
 ghost use mathlib.Core.Path.{_≡_};
 ghost use Rattle.machine.specs.States.{fresh, loadAnswer, loadState, writeRegisterAnswer, writeRegisterState, writePcAnswer, writePcState};
+use crate::program::Program;
 use refusal::LoadFault;
 use refusal::NoRegister;
 use refusal::SkewedAddress;
-use crate::program::Program;
 
 // The words and bits besides registers, pc and program.
 #[derive(Clone, Copy)]

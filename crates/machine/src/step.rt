@@ -56,12 +56,6 @@ fn write_destination(registers: &mut [u32], rd: u8, value: u32)
 }
 
 impl Machine {
-    fn fetch(&self) -> Option<u32>
-        ensures { λ r. ⌜ r ≡ fetched (now (self .entry)) ⌝ }
-    {
-        self.program.word_at(self.pc)
-    }
-
     fn judge(&self, decoded: Decoded) -> Judgement
         ensures { λ r. ⌜ r ≡ judged decoded (now (self .entry)) ⌝ }
     {
@@ -157,13 +151,23 @@ impl Machine {
         }
     }
 
+    // The word is the one at pc.
+    fn carry_out(&mut self, served: Classes, line: bool, word: Option<u32>) -> Record
+        requires { ⌜ word ≡ fetched (now self) ⌝ }
+        ensures state { λ _. ⌜ now (self .exit) ≡ step (serves served) line (now (self .entry)) .0 ⌝ }
+        ensures answer { λ r. ⌜ r ≡ step (serves served) line (now (self .entry)) .1 ⌝ }
+        ensures law { λ r. ⌜ StepLaw (serves served) (now (self .entry)) r (now (self .exit)) ⌝ }
+    {
+        let judgement = self.judge(decode(served, word));
+        self.apply(line, word.unwrap_or(0), judgement)
+    }
+
     pub fn step(&mut self, served: Classes, line: bool) -> Record
         ensures state { λ _. ⌜ now (self .exit) ≡ step (serves served) line (now (self .entry)) .0 ⌝ }
         ensures answer { λ r. ⌜ r ≡ step (serves served) line (now (self .entry)) .1 ⌝ }
         ensures law { λ r. ⌜ StepLaw (serves served) (now (self .entry)) r (now (self .exit)) ⌝ }
     {
-        let word = self.fetch();
-        let judgement = self.judge(decode(served, word));
-        self.apply(line, word.unwrap_or(0), judgement)
+        let word = self.program.word_at(self.pc);
+        self.carry_out(served, line, word)
     }
 }

@@ -4,11 +4,11 @@ ghost use Prim.Native.Nat.{_+_, _<_, _^_};
 ghost use Rattle.words.specs.Fields.{Whole};
 ghost use Rattle.words.specs.Formats.{signed, immediateOf, hasRd, hasRs1, hasRs2, taken, registerFits, registersFit, immediateFits, layOf};
 use crate::fields::Fields;
-use isa::instruction::Instruction;
-use isa::operation::Operation;
 use crate::table;
 use crate::table::Format;
 use crate::table::Row;
+use isa::instruction::Instruction;
+use isa::operation::Operation;
 
 // The number that the low bits of a two's complement number stand for, `half` being the worth of the top one.
 fn sign_extended(n: u32, half: u32) -> i32

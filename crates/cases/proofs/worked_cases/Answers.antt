@@ -1,5 +1,5 @@
 use mathlib.Core.Path.{refl}
-use Rattle.machine.proofs.cases.worked_cases.Needs as need
+use Rattle.cases.proofs.worked_cases.Needs as need
 
 pub returns : need.returns
 returns c =

@@ -6,7 +6,7 @@ use Rattle.machine.specs.Classes.{serves}
 use Rattle.machine.specs.Laws.{StepLaw}
 use Rattle.machine.specs.Step.{step}
 use Rattle.machine.proofs.Laws.{step-law}
-use Rattle.machine.proofs.state.Machine.step.Needs as need
+use Rattle.machine.proofs.state.Machine.carry_out.Needs as need
 
 pub returns : need.returns
 returns c =
@@ -20,6 +20,6 @@ returns c =
       state = after;
       answer = answer;
       law =
-        subst (λ (r : Record). StepLaw s m r (c .apply .last .self)) (sym answer)
-        (subst (λ (n : Machine). StepLaw s m (step s line m .1) n) (sym after) law);
+          subst (λ (r : Record). StepLaw s m r (c .apply .last .self)) (sym answer)
+          (subst (λ (n : Machine). StepLaw s m (step s line m .1) n) (sym after) law);
     }
