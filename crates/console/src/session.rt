@@ -39,7 +39,7 @@ impl Session {
         ensures retired { λ _. ⌜ now (self .exit) .retired ≡ oneMore (now (self .entry) .retired) ⌝ }
     {
         let line = line_stands(events, self.retired);
-        let record = self.machine.step(Classes::all(), line);
+        let record = self.machine.step(Classes::ALL, line);
         self.counts.count(record.outcome);
         self.retired = self.retired.saturating_add(1);
         record

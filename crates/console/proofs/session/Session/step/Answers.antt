@@ -7,13 +7,11 @@ pub returns : need.returns
 returns c =
     record {
       answer =
-          c .step-record .ensures .answer
-          ∙ ap (λ v. step (serves v) (c .line-stands-line .result) (c .args .self .now .machine) .1) (c .all .ensures)
-          ∙ ap (λ b. step (serves everyClass) b (c .args .self .now .machine) .1) (c .line-stands-line .ensures);
+        c .step-record .ensures .answer
+        ∙ ap (λ b. step (serves everyClass) b (c .args .self .now .machine) .1) (c .line-stands-line .ensures);
       machine =
-          c .step-record .ensures .state
-          ∙ ap (λ v. step (serves v) (c .line-stands-line .result) (c .args .self .now .machine) .0) (c .all .ensures)
-          ∙ ap (λ b. step (serves everyClass) b (c .args .self .now .machine) .0) (c .line-stands-line .ensures);
+        c .step-record .ensures .state
+        ∙ ap (λ b. step (serves everyClass) b (c .args .self .now .machine) .0) (c .line-stands-line .ensures);
       counts = c .count .ensures;
       retired = c .saturating-add-self .ensures;
     }
