@@ -1,10 +1,10 @@
 // Reads words and writes what each is in assembler syntax, or that it is illegal.
 use console::faults::ProgramFaultDisplay;
-use report::hex::Hex8;
-use report::hex::Hex8Display;
 use console::program::parse_program;
 use isa::text::InstructionDisplay;
 use refusal::IllegalWordDisplay;
+use report::hex::Hex8;
+use report::hex::Hex8Display;
 use std::error::AnyError;
 use std::fmt;
 use std::io::Read;

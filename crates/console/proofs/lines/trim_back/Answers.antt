@@ -1,7 +1,6 @@
 use mathlib.Core.Path.{sym, ap, _∙_}
 use native.Mathlib.Omega.{arith}
 use native.Mathlib.Nat.{sub-zero}
-use borrow.Author.Needs.{needs}
 use Rattle.std.specs.shelf.Lists.{length}
 use Rattle.std.proofs.shelf.Lists.{take-all}
 use Rattle.console.specs.Lines.{trimmedBack}

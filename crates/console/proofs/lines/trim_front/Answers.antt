@@ -1,6 +1,5 @@
-use mathlib.Core.Path.{sym, ap, _∙_}
+use mathlib.Core.Path.{sym, _∙_}
 use native.Mathlib.Omega.{arith}
-use borrow.Author.Needs.{needs}
 use Rattle.std.proofs.shelf.Lists.{take-rest}
 use Rattle.console.proofs.Texts.{trimmedFront-past, trimmedFront-here, trimmedFront-all}
 use Rattle.console.proofs.lines.trim_front.Needs as need

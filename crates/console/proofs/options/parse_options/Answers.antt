@@ -1,9 +1,8 @@
-use mathlib.Core.Path.{_≡_, sym, ap, _∙_}
+use mathlib.Core.Path.{_≡_, ap, _∙_}
 use mathlib.Core.Logic.{inl, inr, ⊎-elim}
 use native.Mathlib.Omega.{arith}
 use lib.ListN.{length}
 use Rattle.std.specs.Of.String.{string-bytes}
-use Rattle.std.specs.declared.option.Option.the-variants.{Some, None}
 use Rattle.console.specs.Settings.{settingsOf, ended}
 use Rattle.console.proofs.Arguments.{text-taken, text-refused, texts-ended}
 use Rattle.console.proofs.options.parse_options.Needs as need

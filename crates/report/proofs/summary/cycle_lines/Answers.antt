@@ -1,11 +1,8 @@
 use mathlib.Core.Path.{_≡_, ap, _∙_}
-use mathlib.Core.List.{_++_}
-use lib.Chars.{codes}
 use Rattle.std.specs.Of.String.{string-bytes}
 use Rattle.std.specs.Vec.{made}
-use Rattle.std.specs.Written.{decimal}
 use Rattle.std.proofs.shelf.Results.{made-weaker}
-use Rattle.report.specs.Summaries.{newline, cycleLines}
+use Rattle.report.specs.Summaries.{cycleLines}
 use Rattle.report.proofs.RowTexts.{cyclesAt}
 use Rattle.report.proofs.summary.cycle_lines.Needs as need
 

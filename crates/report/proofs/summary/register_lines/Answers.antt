@@ -1,4 +1,4 @@
-use mathlib.Core.Path.{_≡_, sym, ap, _∙_}
+use mathlib.Core.Path.{sym, ap, _∙_}
 use mathlib.Core.List.{_++_}
 use Rattle.std.specs.Of.String.{string-bytes}
 use Rattle.report.proofs.RowTexts.{no-registers, one-register-more}
