@@ -6,4 +6,3 @@ pub mod States
 pub mod Decode
 pub mod Step
 pub mod Laws
-pub mod Cases

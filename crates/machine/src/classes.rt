@@ -1,6 +1,6 @@
 // The classes of instructions that the units under a core serve.
 ghost use mathlib.Core.Path.{_≡_};
-ghost use Rattle.machine.specs.Classes.{serves, everyClass};
+ghost use Rattle.machine.specs.Classes.{serves};
 use isa::operation::Class;
 
 #[derive(Clone, Copy)]
@@ -12,16 +12,12 @@ pub struct Classes {
 }
 
 impl Classes {
-    pub fn all() -> Classes
-        ensures { λ r. ⌜ r ≡ everyClass ⌝ }
-    {
-        Classes {
-            plain: true,
-            multiply: true,
-            divide: true,
-            transfer: true,
-        }
-    }
+    pub const ALL: Classes = Classes {
+        plain: true,
+        multiply: true,
+        divide: true,
+        transfer: true,
+    };
 
     pub fn has(self, class: Class) -> bool
         ensures { λ r. ⌜ r ≡ serves self class ⌝ }

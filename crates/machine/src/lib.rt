@@ -1,6 +1,5 @@
 // The sequential machine: one instruction after another, as programmers see the core.
 //
-//   cases     the worked cases, as one statement about the definitions
 //   cause     why an instruction traps
 //   classes   the classes of instructions that the units serve
 //   program   the table of program words
@@ -10,7 +9,6 @@
 //   decode    what the word at pc asks for
 //   judgement what an instruction does to the state
 //   step      one step: judge the instruction at pc, then apply the judgement to the state
-pub mod cases;
 pub mod cause;
 pub mod classes;
 pub mod decode;

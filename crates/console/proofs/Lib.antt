@@ -1,0 +1,6 @@
+mod Texts
+mod Stands
+mod TextLines
+mod Names
+mod Arguments
+mod FaultTexts
