@@ -1,11 +1,11 @@
 -- A pipeline keeps the laws of a unit, whatever its latency L, its capacity N and its classes.
 -- Assumes nothing.
-use Prim.Native.Nat.{ℕ, _+_, _<_, _≤_}
+use Prim.Native.Nat.{ℕ, _<_}
 use mathlib.Core.Path.{_≡_, refl, sym, ap, subst}
-use mathlib.Core.Bool.{Bool, true, false, cond, _&&_}
+use mathlib.Core.Bool.{Bool, true, false, cond}
 use mathlib.Core.List.{List, [], _∷_}
 use native.Mathlib.Omega.{arith}
-use lib.Dec.{eqb, leb, ltb}
+use lib.Dec.{leb, ltb}
 use lib.ListN.{length}
 use Rattle.std.proofs.shelf.Tests.{and-parts, and-from, ltb-true, lt-ltb, eq-eqb}
 use Rattle.std.specs.declared.option.Option.{Option}
@@ -19,14 +19,13 @@ use Rattle.units.specs.Meaning.{Held, UnitModel, Dues, Tags, Offers, Rooms, Emp
 use Rattle.units.proofs.Classed.{classed-outcome}
 use Rattle.pipelines.specs.declared.queue.Timed.{Timed}
 use Rattle.pipelines.specs.Queues.{pushed, stepped}
-use Rattle.pipelines.specs.Pipelines.{dueAfter, heldFrom, offerOf, offered, roomLeft, pipeline, taken, Sound}
-use Rattle.pipelines.proofs.Cases.{by-eqb}
-use Rattle.pipelines.proofs.Dues.{InTurn, if-held, in-turn, under-none, joins, others}
+use Rattle.pipelines.specs.Pipelines.{heldAfter, heldFrom, offerOf, offered, roomLeft, pipeline, taken, Sound}
+use Rattle.pipelines.proofs.Dues.{InTurn, if-held, in-turn, none-tagged, joins, others}
 use Rattle.pipelines.proofs.Steps.{moves, sound-stepped, sound-pushed}
 
 -- the oldest job is held
 head-held : (L : ℕ) (x : Timed) (xs : List Timed)
-    → heldFrom L 0 (x ∷ xs) (x .job .tag) ≡ Some (record { job = x .job; due = dueAfter L 0 x })
+    → heldFrom L 0 (x ∷ xs) (x .job .tag) ≡ Some (heldAfter L 0 x)
 head-held L x xs = rw (eq-eqb (x .job .tag) (x .job .tag) refl)
 
 some-is : {X : Type 0} (x y : X) → Some x ≡ Some y → x ≡ y
@@ -46,14 +45,14 @@ offer-held : (L : ℕ) (xs : List Timed) (o : Offer) → offered L xs ≡ Some o
     → (h : Held) × (heldFrom L 0 xs (o .tag) ≡ Some h) × (jobOutcome (h .job) ≡ Some (o .outcome))
 offer-held L [] o e = let z : _≡_ {A = ℕ} 0 1 = cc in absurd (omega arith)
 offer-held L (x ∷ xs) o e =
-    let h : Held = record { job = x .job; due = dueAfter L 0 x } in
+    let h = heldAfter L 0 x in
     let i = offer-of (x .job) (jobOutcome (x .job)) (leb L (x .passed)) o e in
     (h, subst (λ t. heldFrom L 0 (x ∷ xs) t ≡ Some h) (i .0) (head-held L x xs), i .1)
 
 -- where nothing is held there is no job
 empty-length : (L : ℕ) (xs : List Timed) → ((t : ℕ) → heldFrom L 0 xs t ≡ None) → length xs ≡ 0
 empty-length L [] none = refl
-empty-length L (x ∷ xs) none = absurd (under-none L 0 (x ∷ xs) (x .job .tag) (none (x .job .tag)) .0 refl)
+empty-length L (x ∷ xs) none = absurd (none-tagged L 0 (x ∷ xs) (x .job .tag) (none (x .job .tag)) .0 refl)
 
 -- room for a word is room for its class
 room-class : (room : Class → Bool) (k : Option Class) → roomIn room k ≡ true → (c : Class) × (k ≡ Some c) × (room c ≡ true)
@@ -107,12 +106,14 @@ module _ {A : Type 0} (L N : ℕ) (serves : Class → Bool) (jobs : A → List T
       → Taken unit (λ v. Sound N (jobs v)) room u j u′
   takes-if u u′ j false fit one e = one e
   takes-if u u′ j true fit one e = λ s none.
-      let n = under-none L 0 (jobs u) (j .tag) none in
-      let f = fit refl in
-      (record {
-        joins = subst (λ ys. Holds j (heldFrom L 0 ys (j .tag))) (sym e) (joins L 0 (jobs u) j n);
-        others = λ t ne. subst (λ ys. Fell 0 (heldFrom L 0 (jobs u) t) (heldFrom L 0 ys t)) (sym e) (others L 0 (jobs u) j t ne);
-      }, subst (Sound N) (sym e) (sound-pushed N j (jobs u) (f .0) (f .1 .0) (f .1 .1) n s))
+      let n = none-tagged L 0 (jobs u) (j .tag) none in
+      let f = fit refl in (
+        record {
+          joins = subst (λ ys. Holds j (heldFrom L 0 ys (j .tag))) (sym e) (joins L 0 (jobs u) j n);
+          others = λ t ne. subst (λ ys. Fell 0 (heldFrom L 0 (jobs u) t) (heldFrom L 0 ys t)) (sym e) (others L 0 (jobs u) j t ne);
+        },
+        subst (Sound N) (sym e) (sound-pushed N j (jobs u) (f .0) (f .1 .0) (f .1 .1) n s),
+      )
 
   pub takes : (u u′ : A) (j : Job) → (jobs u′ ≡ jobs u → u′ ≡ u) → jobs u′ ≡ taken N serves j (jobs u)
       → Taken unit (λ v. Sound N (jobs v)) (roomIn (roomLeft N serves (jobs u)) (wordClass (j .word))) u j u′

@@ -16,12 +16,12 @@ use Rattle.std.specs.declared.option.Option.the-variants.{Some, None}
 use Rattle.isa.specs.declared.outcome.Outcome.{Outcome}
 use Rattle.units.specs.declared.job.Job.{Job}
 use Rattle.units.specs.Jobs.{jobOutcome}
-use Rattle.units.specs.Meaning.{Held, Fell, Moved, offersTag}
+use Rattle.units.specs.Meaning.{Fell, Moved, offersTag}
 use Rattle.pipelines.specs.declared.queue.Timed.{Timed}
 use Rattle.pipelines.specs.Queues.{ticked, fresh, pushed, rest, ready, stepped}
-use Rattle.pipelines.specs.Pipelines.{dueAfter, heldFrom, offerOf, offered, Apart, Sound}
+use Rattle.pipelines.specs.Pipelines.{dueAfter, heldAfter, heldFrom, offerOf, offered, Apart, Sound}
 use Rattle.pipelines.proofs.Cases.{by-eqb, by-leb, both}
-use Rattle.pipelines.proofs.Dues.{falls, none-under}
+use Rattle.pipelines.proofs.Dues.{falls, none-held}
 
 abbrev Worked : Timed → Type 0
 Worked x = (o : Outcome) × (jobOutcome (x .job) ≡ Some o)
@@ -41,10 +41,10 @@ module _ (L : ℕ) (x : Timed) (xs : List Timed) (t : ℕ) where
       → Moved true (eqb (x .job .tag) t) (heldFrom L 0 (x ∷ xs) t) (heldFrom L 0 (map (ticked L) xs) t)
   leaves others =
       by-eqb
-      (λ b. Moved true b (cond b (Some (record { job = x .job; due = dueAfter L 0 x })) (heldFrom L (dueAfter L 0 x) xs t)) (heldFrom L 0 (map (ticked L) xs) t))
+      (λ b. Moved true b (cond b (Some (heldAfter L 0 x)) (heldFrom L (dueAfter L 0 x) xs t)) (heldFrom L 0 (map (ticked L) xs) t))
       (x .job .tag) t
-      (λ e. none-under L 0 (map (ticked L) xs) t
-        (all-map (λ y. y .job .tag ≢ t) (ticked L) xs (all-weaker _ (λ y. y .job .tag ≢ t) (λ y ne q. ne (q ∙ sym e)) xs others)))
+      (λ e. none-held L 0 (map (ticked L) xs) t
+      (all-map (λ y. y .job .tag ≢ t) (ticked L) xs (all-weaker _ (λ y. y .job .tag ≢ t) (λ y ne q. ne (q ∙ sym e)) xs others)))
       (λ _. falls L 1 (dueAfter L 0 x) 0 (omega arith) (omega arith) xs t)
 
   accepted-moves : Worked x → All (λ y. y .job .tag ≢ x .job .tag) xs
@@ -54,7 +54,7 @@ module _ (L : ℕ) (x : Timed) (xs : List Timed) (t : ℕ) where
       (λ b. Moved true (offersTag (cond b (offerOf (x .job) (jobOutcome (x .job))) None) t) (heldFrom L 0 (x ∷ xs) t) (heldFrom L 0 (map (ticked L) (cond b xs (x ∷ xs))) t))
       L (x .passed)
       (λ _. subst (λ (r : Option Outcome). Moved true (offersTag (offerOf (x .job) r) t) (heldFrom L 0 (x ∷ xs) t) (heldFrom L 0 (map (ticked L) xs) t))
-        (sym (w .1)) (leaves others))
+      (sym (w .1)) (leaves others))
       (λ early. waits early)
 
 pub moves : (L : ℕ) (accepted : Bool) (xs : List Timed) → All Worked xs → Apart xs → (t : ℕ)

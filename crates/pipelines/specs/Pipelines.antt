@@ -2,10 +2,10 @@
 -- Assumes nothing.
 use Prim.Native.Nat.{ℕ, _+_, _-_, max, _≤_}
 use mathlib.Core.Path.{_≡_}
-use mathlib.Core.Bool.{Bool, true, false, cond, _&&_}
+use mathlib.Core.Bool.{Bool, cond, _&&_}
 use mathlib.Core.List.{List, [], _∷_}
 use mathlib.Core.Logic.{_≢_}
-use lib.Dec.{eqb, leb, ltb}
+use lib.Dec.{eqb, ltb}
 use lib.ListN.{length}
 use Rattle.std.specs.shelf.Lists.{All}
 use Rattle.std.specs.declared.option.Option.{Option}
@@ -17,30 +17,32 @@ use Rattle.units.specs.declared.job.Offer.{Offer}
 use Rattle.units.specs.Jobs.{wordClass, jobOutcome}
 use Rattle.units.specs.Meaning.{Held, UnitModel, roomIn}
 use Rattle.pipelines.specs.declared.queue.Timed.{Timed}
-use Rattle.pipelines.specs.Queues.{pushed}
+use Rattle.pipelines.specs.Queues.{waited, pushed}
 
 -- the due of a job behind one that is due at p: it leaves after that one, and not before it has waited
 abbrev pub dueAfter : ℕ → ℕ → Timed → ℕ
 dueAfter L p x = max (p + 1) (L + 1 - x .passed)
 
+abbrev pub heldAfter : ℕ → ℕ → Timed → Held
+heldAfter L p x = record { job = x .job; due = dueAfter L p x }
+
 -- the job under a tag, in a queue behind one that is due at p
 abbrev pub heldFrom : ℕ → ℕ → List Timed → ℕ → Option Held
 heldFrom L p [] t = None
-heldFrom L p (x ∷ xs) t =
-    cond (eqb (x .job .tag) t) (Some (record { job = x .job; due = dueAfter L p x })) (heldFrom L (dueAfter L p x) xs t)
+heldFrom L p (x ∷ xs) t = cond (eqb (x .job .tag) t) (Some (heldAfter L p x)) (heldFrom L (dueAfter L p x) xs t)
 
 abbrev pub offerOf : Job → Option Outcome → Option Offer
 offerOf j (Some o) = Some (record { tag = j .tag; outcome = o })
 offerOf j None = None
 
--- a job is offered once it has waited
-abbrev pub offeredOnce : ℕ → Timed → Option Offer
-offeredOnce L x = cond (leb L (x .passed)) (offerOf (x .job) (jobOutcome (x .job))) None
+-- the outcome of a job that has waited
+abbrev pub outcomeOffer : ℕ → Timed → Option Offer
+outcomeOffer L x = cond (waited L x) (offerOf (x .job) (jobOutcome (x .job))) None
 
--- of a queue, the oldest
+-- the oldest is offered
 abbrev pub offered : ℕ → List Timed → Option Offer
 offered L [] = None
-offered L (x ∷ xs) = offeredOnce L x
+offered L (x ∷ xs) = outcomeOffer L x
 
 abbrev pub roomLeft : ℕ → (Class → Bool) → List Timed → Class → Bool
 roomLeft N serves xs c = serves c && ltb (length xs) N

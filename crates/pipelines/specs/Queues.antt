@@ -1,7 +1,7 @@
 -- A queue of jobs, oldest first, each with the steps since it was taken, counted up to a latency.
 -- Assumes nothing.
 use Prim.Native.Nat.{ℕ, _+_, min}
-use mathlib.Core.Bool.{Bool, true, false, cond, _&&_}
+use mathlib.Core.Bool.{Bool, false, cond, _&&_}
 use mathlib.Core.List.{List, [], _∷_, _++_, map}
 use lib.Dec.{leb}
 use Rattle.std.specs.declared.option.Option.{Option}
@@ -36,11 +36,15 @@ pushed j xs = xs ++ fresh j ∷ []
 abbrev pub ticked : ℕ → Timed → Timed
 ticked L x = record { job = x .job; passed = min (x .passed + 1) L }
 
--- whether the oldest has waited the latency L
+-- whether a job has waited the latency L
+abbrev pub waited : ℕ → Timed → Bool
+waited L x = leb L (x .passed)
+
+-- whether the oldest has
 abbrev pub ready : ℕ → List Timed → Bool
 ready L [] = false
-ready L (x ∷ xs) = leb L (x .passed)
+ready L (x ∷ xs) = waited L x
 
--- a step counts for every job that stays; an accepted offer leaves
+-- the oldest leaves where it is ready and accepted, and the step counts for every job that stays
 abbrev pub stepped : ℕ → Bool → List Timed → List Timed
 stepped L accepted xs = map (ticked L) (cond (accepted && ready L xs) (rest xs) xs)

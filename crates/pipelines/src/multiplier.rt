@@ -14,6 +14,7 @@ use units::job::word_class;
 use units::unit::Unit;
 
 const LATENCY: u8 = 3;
+
 const CAPACITY: u8 = 4;
 
 pub struct Multiplier {

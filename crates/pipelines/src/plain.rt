@@ -14,6 +14,7 @@ use units::job::word_class;
 use units::unit::Unit;
 
 const LATENCY: u8 = 0;
+
 const CAPACITY: u8 = 2;
 
 pub struct Plain {

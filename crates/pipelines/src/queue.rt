@@ -4,8 +4,8 @@ ghost use mathlib.Core.List.{map};
 ghost use Prim.Native.Nat.{_<_};
 ghost use lib.Dec.{ltb};
 ghost use lib.ListN.{length};
-ghost use Rattle.pipelines.specs.Queues.{jobsOf, oldest, rest, pushed, ticked, ready, stepped};
-ghost use Rattle.pipelines.specs.Pipelines.{offeredOnce, offered};
+ghost use Rattle.pipelines.specs.Queues.{jobsOf, oldest, rest, pushed, ticked, waited, ready, stepped};
+ghost use Rattle.pipelines.specs.Pipelines.{outcomeOffer, offered};
 use units::job::Job;
 use units::job::Offer;
 
@@ -39,10 +39,16 @@ impl Timed {
         }
     }
 
-    fn offer(self, latency: u8) -> Option<Offer>
-        ensures { λ r. ⌜ r ≡ offeredOnce latency self ⌝ }
+    fn has_waited(self, latency: u8) -> bool
+        ensures { λ r. ⌜ r ≡ waited latency self ⌝ }
     {
-        if self.passed < latency {
+        self.passed >= latency
+    }
+
+    fn offer(self, latency: u8) -> Option<Offer>
+        ensures { λ r. ⌜ r ≡ outcomeOffer latency self ⌝ }
+    {
+        if !self.has_waited(latency) {
             return None;
         }
         let outcome = self.job.outcome()?;
@@ -123,7 +129,7 @@ impl Queue {
         ensures { λ r. ⌜ r ≡ ready latency (jobsOf self) ⌝ }
     {
         match self.oldest() {
-            Some(timed) => timed.passed >= latency,
+            Some(timed) => timed.has_waited(latency),
             None => false,
         }
     }
