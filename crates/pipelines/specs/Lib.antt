@@ -1,0 +1,3 @@
+pub mod Pipelines
+pub mod Queues
+pub mod Supplied
