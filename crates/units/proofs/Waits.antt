@@ -13,7 +13,8 @@ use Rattle.units.specs.declared.job.Job.{Job}
 use Rattle.units.specs.declared.job.Offer.{Offer}
 use Rattle.units.specs.Jobs.{jobOutcome}
 use Rattle.units.specs.Meaning.{UnitModel, Held, Fell, Holds, Moved, Joined, Taken, roomFor, offersTag}
-use Rattle.units.specs.Runs.{Keeps, Take, Step, Run, end, take, step, acceptedSteps, OffersJob, Delivers, OfferedWithinStay}
+use Rattle.units.specs.Calls.{Keeps}
+use Rattle.units.specs.Runs.{Fresh, Run, end, take, step, acceptedSteps, OffersJob, Delivers, OfferedWithinStay}
 
 -- the job is held, and due within n accepted steps
 pub record DueIn (n : ℕ) (j : Job) (o : Option Held) : Type 0 where
@@ -45,8 +46,7 @@ module _ {A : Type 0} (m : UnitModel A) (sound : A → Type 0) (keeps : Keeps m 
 
   -- a take that is refused changes nothing, and one that is not has another tag
   after-take : (n : ℕ) (u : A) (k : Job) (u′ : A) (b : Bool) → roomFor m u (k .word) ≡ b → sound u
-      → (roomFor m u (k .word) ≡ true → m .held u (k .tag) ≡ None)
-      → Taken m sound b u k u′ → Due n u → Due n u′ × sound u′
+      → Fresh m u k → Taken m sound b u k u′ → Due n u → Due n u′ × sound u′
   after-take n u k u′ true e s fresh t d =
       let other : j .tag ≡ k .tag → ⊥ = λ q. not-none (d .held) (m .held u (k .tag)) (fresh e) (ap (m .held u) (sym q) ∙ d .is) in
       let joined = t s (fresh e) in
@@ -74,8 +74,8 @@ module _ {A : Type 0} (m : UnitModel A) (sound : A → Type 0) (keeps : Keeps m 
   -- a due is at least 1, so the run that lasts as long as the due delivers the job
   delivered : {u w : A} (run : Run m sound u w) → sound u → Due (acceptedSteps m sound run) u → Delivers m sound run j
   delivered {u} end s d = absurd (omega (arith, d .due, keeps .dues u s (j .tag) (d .held) (d .is)))
-  delivered {u} (take {v} k call rest) s d =
-      let after = after-take (acceptedSteps m sound rest) u k v (roomFor m u (k .word)) refl s (call .fresh) (call .taken) d in
+  delivered {u} (take {v} k fresh call rest) s d =
+      let after = after-take (acceptedSteps m sound rest) u k v (roomFor m u (k .word)) refl s fresh (call .taken) d in
       delivered rest (after .1) (after .0)
   delivered {u} (step {v} true call rest) s d =
       let n = acceptedSteps m sound rest in
@@ -96,9 +96,9 @@ due-in-stay n j (Some h) e due = record { held = h; is = refl; same = e; due = d
 
 module _ {A : Type 0} (m : UnitModel A) (sound : A → Type 0) (keeps : Keeps m sound) where
   pub offered-within-stay : OfferedWithinStay m sound
-  offered-within-stay u v w j s room call run long =
+  offered-within-stay u v w j s room fresh call run long =
       let taken : Taken m sound true u j v = subst (λ (b : Bool). Taken m sound b u j v) room (call .taken) in
-      let joined = taken s (call .fresh room) in
+      let joined = taken s fresh in
       delivered m sound keeps j run (joined .1)
       (due-in-stay (acceptedSteps m sound run) j (m .held v (j .tag)) (joined .0 .joins)
       (λ h e. omega (arith, keeps .dues v (joined .1) (j .tag) h e .1, call .same .stay, long)))
