@@ -104,7 +104,7 @@ module _ {A B : Type 0} (l : UnitModel A) (r : UnitModel B) (sl : A → Type 0) 
       let lo = l .offer (u .left) in
       let ro = r .offer (u .right) in
       let gone : offersTag ro t ≡ true → l .held (u .left) t ≡ None =
-        λ e. let h = offers-held r (u .right) t ro refl (kr .offers (u .right) (s .right)) e in apart-right (h .0) (l .held (u .left) t) (r .held (u .right) t) (h .1) (s .apart t) in
+      λ e. let h = offers-held r (u .right) t ro refl (kr .offers (u .right) (s .right)) e in apart-right (h .0) (l .held (u .left) t) (r .held (u .right) t) (h .1) (s .apart t) in
       recast accepted (offered (not (not turn)) lo ro) (offered turn lo ro) t (not turn) (l .held (u .left) t) (turned accepted (contested lo ro) (not turn)) (not (u′ .«right_turn»)) (l .held (u′ .left) t)
       (ap (λ (b : Bool). offered b lo ro) (not-not turn))
       (not-turned accepted (contested lo ro) turn ∙ ap not (sym (sides .turn)))
@@ -117,7 +117,7 @@ module _ {A B : Type 0} (l : UnitModel A) (r : UnitModel B) (sl : A → Type 0) 
       let lo = l .offer (u .left) in
       let ro = r .offer (u .right) in
       let gone : offersTag lo t ≡ true → r .held (u .right) t ≡ None =
-        λ e. let h = offers-held l (u .left) t lo refl (kl .offers (u .left) (s .left)) e in apart-left (h .0) (l .held (u .left) t) (r .held (u .right) t) (h .1) (s .apart t) in
+      λ e. let h = offers-held l (u .left) t lo refl (kl .offers (u .left) (s .left)) e in apart-left (h .0) (l .held (u .left) t) (r .held (u .right) t) (h .1) (s .apart t) in
       let swapped = contested-swaps lo ro in
       recast accepted (offered (not turn) ro lo) (offered turn lo ro) t turn (r .held (u .right) t) (turned accepted (contested ro lo) turn) (u′ .«right_turn») (r .held (u′ .right) t)
       (offered-swaps turn lo ro)
@@ -132,18 +132,17 @@ module _ {A B : Type 0} (l : UnitModel A) (r : UnitModel B) (sl : A → Type 0) 
       record {
         same = same-joined l r u u′ (sides .left .same) (sides .right .same);
         stepped = λ s.
-          let left = sides .left .stepped (s .left) in
-          let right = sides .right .stepped (s .right) in
-          (
-            λ t. first-moved accepted (offersTag (joinMeans l r .offer u) t) (sideHeld (not turn) (l .held (u .left) t)) (sideHeld (not (u′ .«right_turn»)) (l .held (u′ .left) t)) (sideHeld turn (r .held (u .right) t)) (sideHeld (u′ .«right_turn») (r .held (u′ .right) t)) (left-moves u accepted u′ s sides t) (right-moves u accepted u′ s sides t),
-            record {
-              left = left .1;
-              right = right .1;
-              apart = λ t.
-                apart-moved (granted accepted both (not turn)) (offersTag (l .offer (u .left)) t) (granted accepted both turn) (offersTag (r .offer (u .right)) t) (l .held (u .left) t) (l .held (u′ .left) t) (r .held (u .right) t) (r .held (u′ .right) t)
-                (left .0 t) (right .0 t) (s .apart t);
-            }
-          );
+            let left = sides .left .stepped (s .left) in
+            let right = sides .right .stepped (s .right) in (
+              λ t. first-moved accepted (offersTag (joinMeans l r .offer u) t) (sideHeld (not turn) (l .held (u .left) t)) (sideHeld (not (u′ .«right_turn»)) (l .held (u′ .left) t)) (sideHeld turn (r .held (u .right) t)) (sideHeld (u′ .«right_turn») (r .held (u′ .right) t)) (left-moves u accepted u′ s sides t) (right-moves u accepted u′ s sides t),
+              record {
+                left = left .1;
+                right = right .1;
+                apart = λ t.
+                    apart-moved (granted accepted both (not turn)) (offersTag (l .offer (u .left)) t) (granted accepted both turn) (offersTag (r .offer (u .right)) t) (l .held (u .left) t) (l .held (u′ .left) t) (r .held (u .right) t) (r .held (u′ .right) t)
+                    (left .0 t) (right .0 t) (s .apart t);
+              },
+            );
       }
 
 -- a take ----------------------------------------------------------------------------
@@ -184,24 +183,23 @@ module _ {A B : Type 0} (l : UnitModel A) (r : UnitModel B) (sl : A → Type 0) 
       let x = l .held (u .left) in
       let x′ = l .held (u′ .left) in
       let y = r .held (u .right) in
-      let y′ = r .held (u′ .right) in
-      (
+      let y′ = r .held (u′ .right) in (
         record {
           joins = holds-first (not (u′ .«right_turn»)) (u′ .«right_turn») j (x′ (j .tag)) (y′ (j .tag)) holds;
           others = λ t ne.
-            subst (λ (b : Bool). Fell 0 (firstOf (sideHeld (not turn) (x t)) (sideHeld turn (y t))) (firstOf (sideHeld (not b) (x′ t)) (sideHeld b (y′ t)))) (sym stays)
-            (first-fell 0 (sideHeld (not turn) (x t)) (sideHeld (not turn) (x′ t)) (sideHeld turn (y t)) (sideHeld turn (y′ t))
-            (held-stays (not turn) (x t) (x′ t) (left t ne)) (held-stays turn (y t) (y′ t) (right t ne)));
+              subst (λ (b : Bool). Fell 0 (firstOf (sideHeld (not turn) (x t)) (sideHeld turn (y t))) (firstOf (sideHeld (not b) (x′ t)) (sideHeld b (y′ t)))) (sym stays)
+              (first-fell 0 (sideHeld (not turn) (x t)) (sideHeld (not turn) (x′ t)) (sideHeld turn (y t)) (sideHeld turn (y′ t))
+              (held-stays (not turn) (x t) (x′ t) (left t ne)) (held-stays turn (y t) (y′ t) (right t ne)));
         },
         record {
           left = sl′;
           right = sr′;
           apart = λ t.
-            elim (cases-eq t (j .tag)) [
-              | inl e ↦ subst (λ (n : ℕ). Apart (l .held (u′ .left) n) (r .held (u′ .right) n)) (sym e) apart
-              | inr ne ↦ apart-fell (x t) (x′ t) (y t) (y′ t) (left t ne) (right t ne) (s .apart t)
-            ];
-        }
+              elim (cases-eq t (j .tag)) [
+                | inl e ↦ subst (λ (n : ℕ). Apart (l .held (u′ .left) n) (r .held (u′ .right) n)) (sym e) apart
+                | inr ne ↦ apart-fell (x t) (x′ t) (y t) (y′ t) (left t ne) (right t ne) (s .apart t)
+              ];
+        },
       )
 
   abbrev RightTaken : Bool → Bool → B → Job → B → Type 0
@@ -245,8 +243,8 @@ module _ {A B : Type 0} (l : UnitModel A) (r : UnitModel B) (sl : A → Type 0) 
       record {
         same = same-joined l r u u′ (sides .left .same) (right-same a (u .right) j (u′ .right) (sides .right));
         taken =
-          subst (λ (b : Bool). Taken (joinMeans l r) (Sound l r sl sr) b u j u′) (room-joined (l .room (u .left)) (r .room (u .right)) (wordClass (j .word)))
-          (taken-joined a (roomFor r (u .right) (j .word)) u j u′ (sides .turn) (sides .left .taken) (right-taken a (u .right) j (u′ .right) (sides .right)));
+            subst (λ (b : Bool). Taken (joinMeans l r) (Sound l r sl sr) b u j u′) (room-joined (l .room (u .left)) (r .room (u .right)) (wordClass (j .word)))
+            (taken-joined a (roomFor r (u .right) (j .word)) u j u′ (sides .turn) (sides .left .taken) (right-taken a (u .right) j (u′ .right) (sides .right)));
       }
 
   -- the two ways of a take: a says whether the left side has room

@@ -49,12 +49,12 @@ module _ {A B : Type 0} (l : UnitModel A) (r : UnitModel B) (sl : A → Type 0) 
       let y = r .held (u .right) (o .tag) in
       elim (offered-by turn (l .offer (u .left)) (r .offer (u .right)) o e) [
         | inl f ↦
-          let h = kl .offers (u .left) (s .left) o f in
-          (doubled (not turn) (h .0), ap (λ (z : Option Held). firstOf (sideHeld (not turn) z) (sideHeld turn y)) (h .1), h .2)
+            let h = kl .offers (u .left) (s .left) o f in
+            (doubled (not turn) (h .0), ap (λ (z : Option Held). firstOf (sideHeld (not turn) z) (sideHeld turn y)) (h .1), h .2)
         | inr f ↦
-          let h = kr .offers (u .right) (s .right) o f in
-          let gone = apart-right (h .0) x y (h .1) (s .apart (o .tag)) in
-          (doubled turn (h .0), ap (λ (z : Option Held). firstOf (sideHeld (not turn) z) (sideHeld turn y)) gone ∙ ap (sideHeld turn) (h .1), h .2)
+            let h = kr .offers (u .right) (s .right) o f in
+            let gone = apart-right (h .0) x y (h .1) (s .apart (o .tag)) in
+            (doubled turn (h .0), ap (λ (z : Option Held). firstOf (sideHeld (not turn) z) (sideHeld turn y)) gone ∙ ap (sideHeld turn) (h .1), h .2)
       ]
 
   rooms : (u : Join A B) → Rooms (joinMeans l r) u

@@ -3,12 +3,19 @@
 use mathlib.Core.Path.{_≡_}
 use mathlib.Core.Bool.{Bool, true, false, not}
 use Rattle.units.specs.declared.job.Job.{Job}
-use Rattle.units.specs.Meaning.{UnitModel, roomFor}
+use Rattle.units.specs.Meaning.{UnitModel, Taken, Stepped, roomFor}
 use Rattle.units.specs.Calls.{TakeCall, StepCall, ClearCall}
 use Rattle.join.specs.declared.Join.{Join}
-use Rattle.join.specs.Joined.{contested, turned, granted}
+use Rattle.join.specs.Joined.{contested, turned, granted, joinMeans, Sound}
 
 module _ {A B : Type 0} (l : UnitModel A) (r : UnitModel B) (sl : A → Type 0) (sr : B → Type 0) where
+  -- what take and step promise of a join as a unit
+  abbrev pub JoinTaken : Join A B → Job → Join A B → Type 0
+  JoinTaken u j u′ = Taken (joinMeans l r) (Sound l r sl sr) (roomFor (joinMeans l r) u (j .word)) u j u′
+
+  abbrev pub JoinStepped : Join A B → Bool → Join A B → Type 0
+  JoinStepped u accepted u′ = Sound l r sl sr u → Stepped (joinMeans l r) u accepted u′ × Sound l r sl sr u′
+
   -- the right side is asked only where the left has no room
   abbrev pub RightTakes : Bool → B → Job → B → Type 0
   RightTakes true u j u′ = u′ ≡ u

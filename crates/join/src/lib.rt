@@ -1,8 +1,8 @@
 // A unit made of two: it serves what either serves, and the two take turns where both offer.
 ghost use mathlib.Core.Path.{_≡_};
-ghost use Rattle.units.specs.Meaning.{Same, Taken, Stepped, Empty, roomFor, takeAnswer};
+ghost use Rattle.units.specs.Meaning.{Same, Empty, roomFor, takeAnswer};
 ghost use Rattle.join.specs.Joined.{joined, joinMeans, Sound, contested};
-ghost use Rattle.join.specs.Sides.{SidesTake, SidesStep, SidesClear};
+ghost use Rattle.join.specs.Sides.{JoinTaken, JoinStepped, SidesTake, SidesStep, SidesClear};
 use isa::operation::Class;
 use refusal::NoRoom;
 use units::job::Job;
@@ -47,7 +47,7 @@ pub impl<A: Unit, B: Unit> Unit for Join<A, B> as JoinUnit {
     fn take(&mut self, job: Job) -> Result<(), NoRoom>
         ensures answer { λ r. ⌜ r ≡ takeAnswer (roomFor (joinMeans (A·Unit .means) (B·Unit .means)) (now (self .entry)) (job .word)) ⌝ }
         ensures same { λ _. ⌜ Same (joinMeans (A·Unit .means) (B·Unit .means)) (now (self .entry)) (now (self .exit)) ⌝ }
-        ensures taken { λ _. ⌜ Taken (joinMeans (A·Unit .means) (B·Unit .means)) (Sound (A·Unit .means) (B·Unit .means) (A·Unit .sound) (B·Unit .sound)) (roomFor (joinMeans (A·Unit .means) (B·Unit .means)) (now (self .entry)) (job .word)) (now (self .entry)) job (now (self .exit)) ⌝ }
+        ensures taken { λ _. ⌜ JoinTaken (A·Unit .means) (B·Unit .means) (A·Unit .sound) (B·Unit .sound) (now (self .entry)) job (now (self .exit)) ⌝ }
         ensures sides { λ _. ⌜ SidesTake (A·Unit .means) (B·Unit .means) (A·Unit .sound) (B·Unit .sound) (now (self .entry)) job (now (self .exit)) ⌝ }
     {
         match self.left.take(job) {
@@ -66,7 +66,7 @@ pub impl<A: Unit, B: Unit> Unit for Join<A, B> as JoinUnit {
 
     fn step(&mut self, accepted: bool)
         ensures same { λ _. ⌜ Same (joinMeans (A·Unit .means) (B·Unit .means)) (now (self .entry)) (now (self .exit)) ⌝ }
-        ensures stepped { λ _. ⌜ ((Sound (A·Unit .means) (B·Unit .means) (A·Unit .sound) (B·Unit .sound)) (now (self .entry)) → Stepped (joinMeans (A·Unit .means) (B·Unit .means)) (now (self .entry)) accepted (now (self .exit)) × (Sound (A·Unit .means) (B·Unit .means) (A·Unit .sound) (B·Unit .sound)) (now (self .exit))) ⌝ }
+        ensures stepped { λ _. ⌜ JoinStepped (A·Unit .means) (B·Unit .means) (A·Unit .sound) (B·Unit .sound) (now (self .entry)) accepted (now (self .exit)) ⌝ }
         ensures sides { λ _. ⌜ SidesStep (A·Unit .means) (B·Unit .means) (A·Unit .sound) (B·Unit .sound) (now (self .entry)) accepted (now (self .exit)) ⌝ }
     {
         if accepted && self.contested() {
@@ -83,7 +83,7 @@ pub impl<A: Unit, B: Unit> Unit for Join<A, B> as JoinUnit {
     fn clear(&mut self)
         ensures same { λ _. ⌜ Same (joinMeans (A·Unit .means) (B·Unit .means)) (now (self .entry)) (now (self .exit)) ⌝ }
         ensures empty { λ _. ⌜ Empty (joinMeans (A·Unit .means) (B·Unit .means)) (now (self .exit)) ⌝ }
-        ensures sound { λ _. ⌜ (Sound (A·Unit .means) (B·Unit .means) (A·Unit .sound) (B·Unit .sound)) (now (self .exit)) ⌝ }
+        ensures sound { λ _. ⌜ Sound (A·Unit .means) (B·Unit .means) (A·Unit .sound) (B·Unit .sound) (now (self .exit)) ⌝ }
         ensures sides { λ _. ⌜ SidesClear (A·Unit .means) (B·Unit .means) (A·Unit .sound) (B·Unit .sound) (now (self .entry)) (now (self .exit)) ⌝ }
     {
         self.left.clear();
@@ -100,7 +100,13 @@ pub fn pile<A: Unit, B: Unit, C: Unit>(a: A, b: B, c: C) -> Join<Join<A, B>, C>
 }
 
 // Five units as one, four joins deep.
-pub fn tall_pile<A: Unit, B: Unit, C: Unit, D: Unit, E: Unit>(a: A, b: B, c: C, d: D, e: E) -> Join<Join<Join<Join<A, B>, C>, D>, E>
+pub fn tall_pile<A: Unit, B: Unit, C: Unit, D: Unit, E: Unit>(
+    a: A,
+    b: B,
+    c: C,
+    d: D,
+    e: E,
+) -> Join<Join<Join<Join<A, B>, C>, D>, E>
     ensures { λ r. ⌜ r ≡ joined (joined (joined (joined a b) c) d) e ⌝ }
 {
     pile(pile(a, b, c), d, e)

@@ -37,11 +37,11 @@ returns-then-contested g c =
     let u = c .args .self .now in
     let accepted = c .args .accepted in
     let sides =
-      sides-step (g .A·Unit .means) (g .B·Unit .means) (g .A·Unit .sound) (g .B·Unit .sound) u accepted
-      (c .step .last .self) (c .step-then-contested .last .self)
-      true (and-from accepted (both g u) (c .if-accepted .taken) (sym (c .contested .ensures) ∙ c .if-contested .taken))
-      (record { same = c .step .ensures .same; stepped = c .step .ensures .stepped })
-      (record { same = c .step-then-contested .ensures .same; stepped = c .step-then-contested .ensures .stepped }) in
+    sides-step (g .A·Unit .means) (g .B·Unit .means) (g .A·Unit .sound) (g .B·Unit .sound) u accepted
+    (c .step .last .self) (c .step-then-contested .last .self)
+    true (and-from accepted (both g u) (c .if-accepted .taken) (sym (c .contested .ensures) ∙ c .if-contested .taken))
+    (record { same = c .step .ensures .same; stepped = c .step .ensures .stepped })
+    (record { same = c .step-then-contested .ensures .same; stepped = c .step-then-contested .ensures .stepped }) in
     let call = by-sides g u accepted _ sides in
     record { same = call .same; stepped = call .stepped; sides = sides }
 
@@ -50,14 +50,14 @@ returns-else-accepted g c =
     let u = c .args .self .now in
     let accepted = c .args .accepted in
     let alone : (accepted && both g u) ≡ false =
-      elim (c .else-accepted .came) [
-        | else-accepted·by·then-accepted·else-contested w ↦ and-right accepted (both g u) (sym (w .contested .ensures) ∙ w .if-contested .left)
-        | else-accepted·by·else-accepted w ↦ and-left accepted (both g u) (w .if-accepted .left)
-      ] in
+    elim (c .else-accepted .came) [
+      | else-accepted·by·then-accepted·else-contested w ↦ and-right accepted (both g u) (sym (w .contested .ensures) ∙ w .if-contested .left)
+      | else-accepted·by·else-accepted w ↦ and-left accepted (both g u) (w .if-accepted .left)
+    ] in
     let sides =
-      sides-step (g .A·Unit .means) (g .B·Unit .means) (g .A·Unit .sound) (g .B·Unit .sound) u accepted
-      (c .step-else-accepted .last .self) (c .step-else-accepted-2 .last .self) false alone
-      (record { same = c .step-else-accepted .ensures .same; stepped = c .step-else-accepted .ensures .stepped })
-      (record { same = c .step-else-accepted-2 .ensures .same; stepped = c .step-else-accepted-2 .ensures .stepped }) in
+    sides-step (g .A·Unit .means) (g .B·Unit .means) (g .A·Unit .sound) (g .B·Unit .sound) u accepted
+    (c .step-else-accepted .last .self) (c .step-else-accepted-2 .last .self) false alone
+    (record { same = c .step-else-accepted .ensures .same; stepped = c .step-else-accepted .ensures .stepped })
+    (record { same = c .step-else-accepted-2 .ensures .same; stepped = c .step-else-accepted-2 .ensures .stepped }) in
     let call = by-sides g u accepted _ sides in
     record { same = call .same; stepped = call .stepped; sides = sides }

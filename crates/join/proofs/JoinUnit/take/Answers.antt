@@ -31,7 +31,7 @@ returns-in-Err g c =
     let taken = c .take-in-Err .ensures in
     let full : roomFor l (u .left) (j .word) ≡ false = err-room (roomFor l (u .left) (j .word)) (c .in-Err .field-0) (c .take .result) (refused .answer) (c .in-Err .is) in
     let sides =
-      sides-take l r sl sr u j (c .take .last .self) (c .take-in-Err .last .self) false full
-      (record { same = refused .same; taken = refused .taken }) (record { same = taken .same; taken = taken .taken }) in
+    sides-take l r sl sr u j (c .take .last .self) (c .take-in-Err .last .self) false full
+    (record { same = refused .same; taken = refused .taken }) (record { same = taken .same; taken = taken .taken }) in
     let call = take-joined l r sl sr u j _ sides in
     record { answer = taken .answer ∙ answer-joined l r sl sr u j false full; same = call .same; taken = call .taken; sides = sides }
