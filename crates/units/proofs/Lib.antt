@@ -1,1 +1,2 @@
 pub mod Classed
+pub mod Waits

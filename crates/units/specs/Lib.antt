@@ -1,2 +1,4 @@
+pub mod Calls
 pub mod Jobs
 pub mod Meaning
+pub mod Runs
