@@ -1,0 +1,3 @@
+pub mod Restoring
+pub mod Signs
+pub mod Divisions
