@@ -1,7 +1,7 @@
 -- Which division an operation asks for, and which a word.
 -- Assumes nothing.
 use Prim.Native.Nat.{ℕ}
-use mathlib.Core.Bool.{true, false}
+use mathlib.Core.Bool.{Bool, true, false}
 use Rattle.std.specs.declared.option.Option.{Option}
 use Rattle.std.specs.declared.option.Option.the-variants.{Some, None}
 use Rattle.std.specs.declared.result.Result.{Result}
@@ -9,9 +9,17 @@ use Rattle.std.specs.declared.result.Result.the-variants.{Ok, Err}
 use Rattle.isa.specs.declared.instruction.Instruction.{Instruction}
 use Rattle.isa.specs.declared.operation.Operation.{Operation}
 use Rattle.isa.specs.declared.operation.Operation.the-variants.{Lui, Auipc, Jal, Jalr, Beq, Bne, Blt, Bge, Bltu, Bgeu, Addi, Slti, Sltiu, Xori, Ori, Andi, Slli, Srli, Srai, Add, Sub, Sll, Slt, Sltu, Xor, Srl, Sra, Or, And, Mul, Div, Divu, Rem, Remu, Ecall, Ebreak, Mret}
+use Rattle.isa.specs.declared.operation.Class.{Class}
+use Rattle.isa.specs.declared.operation.Class.the-variants.{Plain, Multiply, Divide, Transfer}
 use Rattle.refusal.specs.declared.IllegalWord.{IllegalWord}
 use Rattle.words.specs.Words.{readWord}
 use Rattle.divider.specs.declared.division.Division.{Division}
+
+abbrev pub isDivide : Class → Bool
+isDivide Plain = false
+isDivide Multiply = false
+isDivide Divide = true
+isDivide Transfer = false
 
 -- the operations of class Divide
 abbrev pub divisionOf : Operation → Option Division

@@ -7,6 +7,7 @@ use lib.IntN.{ℤ, pos, natAbs}
 use lib.Signed.{nonNeg}
 use mir.Val.{toZ}
 use mir.Syntax.{w32}
+use Rattle.divider.specs.Restoring.{quotientAt, remainderAt}
 use Rattle.divider.specs.declared.division.Division.{Division}
 
 -- an operand as a signed or an unsigned division reads it
@@ -35,3 +36,10 @@ abbrev pub signed : Division → ℕ → ℕ → ℕ → ℕ → ℕ
 signed d a b q r =
     let s = d .signed in
     cond (d .remainder) (negated (negative s a) r) (negated (not (eqb b 0) && differ (negative s a) (negative s b)) q)
+
+-- what a division comes to: the results of the last step, signed
+abbrev pub resultOf : Division → ℕ → ℕ → ℕ
+resultOf d a b =
+    let n = magnitude (d .signed) a in
+    let m = magnitude (d .signed) b in
+    signed d a b (quotientAt n m 32) (remainderAt n m 32)
