@@ -1,2 +1,3 @@
 pub mod Restoring
 pub mod Values
+pub mod Known

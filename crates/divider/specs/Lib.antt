@@ -1,3 +1,4 @@
 pub mod Restoring
 pub mod Signs
 pub mod Divisions
+pub mod States
