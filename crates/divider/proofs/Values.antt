@@ -3,7 +3,7 @@
 use Prim.Native.Nat.{ℕ, zero, suc, _+_, _-_, _*_, _/_, _%_, _^_, _≤_, _<_}
 use native.Mathlib.Nat.{mod-le, div-le-self}
 use native.Mathlib.Omega.{arith}
-use mathlib.Core.Path.{_≡_, refl, sym, ap, _∙_}
+use mathlib.Core.Path.{_≡_, refl, sym, ap, subst, _∙_}
 use mathlib.Core.Bool.{Bool, true, false, cond, not, _&&_}
 use lib.Dec.{eqb}
 use lib.IntN.{ℤ, pos, negsuc, negℤ, natAbs}
@@ -12,15 +12,21 @@ use Rattle.std.proofs.shelf.Tests.{ne-eqb}
 use Rattle.std.proofs.shelf.Signed.{ints}
 use Rattle.std.specs.declared.option.Option.{Option}
 use Rattle.std.specs.declared.option.Option.the-variants.{Some, None}
-use Rattle.isa.specs.declared.operation.Class.the-variants.{Divide}
+use Rattle.std.specs.declared.result.Result.{Result}
+use Rattle.std.specs.declared.result.Result.the-variants.{Ok, Err}
+use Rattle.isa.specs.declared.instruction.Instruction.{Instruction}
 use Rattle.isa.specs.declared.operation.Operation.{Operation}
 use Rattle.isa.specs.declared.operation.Operation.the-variants.{Lui, Auipc, Jal, Jalr, Beq, Bne, Blt, Bge, Bltu, Bgeu, Addi, Slti, Sltiu, Xori, Ori, Andi, Slli, Srli, Srai, Add, Sub, Sll, Slt, Sltu, Xor, Srl, Sra, Or, And, Mul, Div, Divu, Rem, Remu, Ecall, Ebreak, Mret}
 use Rattle.isa.specs.declared.outcome.Outcome.the-variants.{Done}
 use Rattle.isa.specs.Classes.{classOf}
+use Rattle.refusal.specs.declared.IllegalWord.{IllegalWord}
+use Rattle.words.specs.Words.{readWord}
 use Rattle.execute.specs.Outcomes.{residue, quotientUnsigned, remainderUnsigned, sum, outcomeOf}
+use Rattle.units.specs.declared.job.Job.{Job}
+use Rattle.units.specs.Jobs.{classRead, wordClass, outcomeRead, jobOutcome}
 use Rattle.units.specs.Meaning.{roomIn}
 use Rattle.divider.specs.declared.division.Division.{Division}
-use Rattle.divider.specs.Divisions.{isDivide, divisionOf}
+use Rattle.divider.specs.Divisions.{isDivide, divisionOf, divisionRead, divisionIn}
 use Rattle.divider.specs.Restoring.{quotientAt, remainderAt}
 use Rattle.divider.specs.Signs.{operand, magnitude, negative, negated, differ, signed, resultOf}
 use Rattle.divider.proofs.Restoring.{all-bits, not-zero}
@@ -95,7 +101,7 @@ unsigned-remainder a b h l =
 -- an operation that asks for a division is of class Divide, and its result is the outcome
 abbrev Answers : Option Division → Operation → Type 0
 Answers None o = roomIn isDivide (classOf o) ≡ false
-Answers (Some d) o = (classOf o ≡ Some Divide) × ((z : ℤ) (pc a b : ℕ) → a < 2 ^ 32 → b < 2 ^ 32
+Answers (Some d) o = (roomIn isDivide (classOf o) ≡ true) × ((z : ℤ) (pc a b : ℕ) → a < 2 ^ 32 → b < 2 ^ 32
     → outcomeOf (record { operation = o; rd = 0; rs1 = 0; rs2 = 0; immediate = z }) pc a b ≡ Some (Done (resultOf d a b) (sum pc 4)))
 
 answers : (o : Operation) → Answers (divisionOf o) o
@@ -136,3 +142,32 @@ answers Remu = (refl, λ z pc a b h l. ap (λ v. Some (Done v (sum pc 4))) (sym 
 answers Ecall = refl
 answers Ebreak = refl
 answers Mret = refl
+
+-- the same of what a word reads as
+abbrev AnswersRead : Option Division → Result Instruction IllegalWord → Type 0
+AnswersRead None x = roomIn isDivide (classRead x) ≡ false
+AnswersRead (Some d) x = (roomIn isDivide (classRead x) ≡ true) × ((pc a b : ℕ) → a < 2 ^ 32 → b < 2 ^ 32
+    → outcomeRead x pc a b ≡ Some (Done (resultOf d a b) (sum pc 4)))
+
+lift : (y : Option Division) (i : Instruction) → Answers y (i .operation) → AnswersRead y (Ok i)
+lift None i p = p
+lift (Some d) i p = (p .0, p .1 (i .immediate))
+
+answers-read : (x : Result Instruction IllegalWord) → AnswersRead (divisionRead x) x
+answers-read (Ok i) = lift (divisionOf (i .operation)) i (answers (i .operation))
+answers-read (Err e) = refl
+
+at-word : (w : ℕ) (y : Option Division) → divisionIn w ≡ y → AnswersRead y (readWord w)
+at-word w y e = subst (λ (z : Option Division). AnswersRead z (readWord w)) e (answers-read (readWord w))
+
+-- whether an idle divider has room for a word
+pub word-room : (w : ℕ) (d : Division) → divisionIn w ≡ Some d → roomIn isDivide (wordClass w) ≡ true
+word-room w d e = at-word w (Some d) e .0
+
+pub word-no-room : (w : ℕ) → divisionIn w ≡ None → roomIn isDivide (wordClass w) ≡ false
+word-no-room w e = at-word w None e
+
+-- the result is the outcome of the job
+pub job-done : (job : Job) (d : Division) → divisionIn (job .word) ≡ Some d → job .a < 2 ^ 32 → job .b < 2 ^ 32
+    → jobOutcome job ≡ Some (Done (resultOf d (job .a) (job .b)) (sum (job .pc) 4))
+job-done job d e h l = at-word (job .word) (Some d) e .1 (job .pc) (job .a) (job .b) h l

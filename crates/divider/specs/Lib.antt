@@ -2,3 +2,4 @@ pub mod Restoring
 pub mod Signs
 pub mod Divisions
 pub mod States
+pub mod Model

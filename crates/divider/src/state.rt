@@ -2,10 +2,14 @@
 ghost use mathlib.Core.Path.{_≡_};
 ghost use Prim.Native.Nat.{_+_};
 ghost use Rattle.divider.specs.Restoring.{quotientAt, remainderAt};
-ghost use Rattle.divider.specs.States.{startOf, nextOf};
+ghost use Rattle.divider.specs.States.{admitted, startOf, nextOf};
+use crate::division;
 use crate::division::Division;
 use crate::working::Working;
 use units::job::Job;
+
+// One for each bit of the dividend.
+const STEPS: u32 = 32;
 
 #[derive(Clone, Copy)]
 pub struct Finished {
@@ -18,6 +22,18 @@ pub enum State {
     Idle,
     Working(Working),
     Finished(Finished),
+}
+
+impl State {
+    // The division that a word asks for, while no other is held.
+    pub fn admit(self, word: u32) -> Option<Division>
+        ensures { λ r. ⌜ r ≡ admitted self word ⌝ }
+    {
+        match self {
+            State::Idle => division::of_word(word),
+            State::Working(_) | State::Finished(_) => None,
+        }
+    }
 }
 
 impl Working {
@@ -53,7 +69,7 @@ impl Working {
         ensures { λ r. ⌜ r ≡ nextOf self ⌝ }
     {
         let (quotient, remainder) = self.restore();
-        if self.steps < 31 {
+        if self.steps + 1 < STEPS {
             State::Working(Working {
                 job: self.job,
                 division: self.division,
@@ -66,8 +82,7 @@ impl Working {
         } else {
             State::Finished(Finished {
                 job: self.job,
-                value: self
-                    .division
+                value: self.division
                     .sign(self.job.a, self.job.b, quotient, remainder),
             })
         }
