@@ -30,7 +30,7 @@ pub(crate) fn parse_number(text: &[u8]) -> Result<u64, NumberFault>
     }
 }
 
-pub(crate) fn parse_address(text: &[u8]) -> Result<u32, NumberFault>
+pub fn parse_address(text: &[u8]) -> Result<u32, NumberFault>
     ensures { λ r. ⌜ r ≡ addressOf (now (text .entry)) ⌝ }
 {
     let number = parse_number(text)?;

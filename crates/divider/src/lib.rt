@@ -20,6 +20,7 @@ mod division;
 mod state;
 mod working;
 
+#[derive(Drop)]
 pub struct Divider {
     state: State,
 }

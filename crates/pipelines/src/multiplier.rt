@@ -17,6 +17,7 @@ const LATENCY: u8 = 3;
 
 const CAPACITY: u8 = 4;
 
+#[derive(Drop)]
 pub struct Multiplier {
     queue: Queue,
 }

@@ -17,6 +17,7 @@ const LATENCY: u8 = 0;
 
 const CAPACITY: u8 = 2;
 
+#[derive(Drop)]
 pub struct Plain {
     queue: Queue,
 }

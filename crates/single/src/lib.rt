@@ -10,6 +10,7 @@ use units::job::Offer;
 use units::job::word_class;
 use units::unit::Unit;
 
+#[derive(Drop)]
 pub struct Single {
     job: Option<Job>,
 }
