@@ -19,12 +19,9 @@ use Rattle.units.specs.Jobs.{jobOutcome}
 use Rattle.units.specs.Meaning.{Fell, Moved, offersTag}
 use Rattle.pipelines.specs.declared.queue.Timed.{Timed}
 use Rattle.pipelines.specs.Queues.{ticked, fresh, pushed, rest, ready, stepped}
-use Rattle.pipelines.specs.Pipelines.{dueAfter, heldAfter, heldFrom, offerOf, offered, Apart, Sound}
+use Rattle.pipelines.specs.Pipelines.{dueAfter, heldAfter, heldFrom, offerOf, offered, Apart, Worked, Sound}
 use Rattle.pipelines.proofs.Cases.{by-eqb, by-leb, both}
 use Rattle.pipelines.proofs.Dues.{falls, none-held}
-
-abbrev Worked : Timed → Type 0
-Worked x = (o : Outcome) × (jobOutcome (x .job) ≡ Some o)
 
 -- what is held after a step ---------------------------------------------------
 

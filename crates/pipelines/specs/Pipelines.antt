@@ -47,6 +47,7 @@ offered L (x ∷ xs) = outcomeOffer L x
 abbrev pub roomLeft : ℕ → (Class → Bool) → List Timed → Class → Bool
 roomLeft N serves xs c = serves c && ltb (length xs) N
 
+-- with the list of jobs that a unit's state holds; a job waits at most L steps, and then for those in front of it
 abbrev pub pipeline : {A : Type 0} → ℕ → ℕ → (Class → Bool) → (A → List Timed) → UnitModel A
 pipeline L N serves jobs = record {
   serves = λ u. serves;
@@ -65,7 +66,12 @@ abbrev pub Apart : List Timed → Type 0
 Apart [] = Unit {0}
 Apart (x ∷ xs) = All (λ y. y .job .tag ≢ x .job .tag) xs × Apart xs
 
+-- a job that a unit works out
+abbrev pub Worked : Timed → Type 0
+Worked x = (o : Outcome) × (jobOutcome (x .job) ≡ Some o)
+
+-- what holds of a queue since the last clear, where no tag was taken while it was held
 pub record Sound (N : ℕ) (xs : List Timed) : Type 0 where
   pub few : length xs ≤ N
-  pub worked : All (λ x. (o : Outcome) × (jobOutcome (x .job) ≡ Some o)) xs
+  pub worked : All Worked xs
   pub apart : Apart xs
