@@ -57,11 +57,13 @@ joined : (o′ : Option Job) (j : Job) (c : Class) → o′ ≡ Some j → wordC
     → Joined single (with None) j (with o′) × Sound o′
 joined o′ j c e k =
     let due : Held = record { job = j; due = 1 } in
-    subst (λ (q : Option Job). Joined single (with None) j (with q) × Sound q) (sym e)
-    (record {
-      joins = subst (Holds j) (sym (held-here j)) refl;
-      others = λ t ne. subst (λ (b : Bool). Fell 0 None (cond b (Some due) None)) (sym (ne-eqb (j .tag) t (λ same. ne (sym same)))) tt;
-    }, classed-outcome j c k)
+    subst (λ (q : Option Job). Joined single (with None) j (with q) × Sound q) (sym e) (
+      record {
+        joins = subst (Holds j) (sym (held-here j)) refl;
+        others = λ t ne. subst (λ (b : Bool). Fell 0 None (cond b (Some due) None)) (sym (ne-eqb (j .tag) t (λ same. ne (sym same)))) tt;
+      },
+      classed-outcome j c k,
+    )
 
 pub takes : (o o′ : Option Job) (j : Job) (k : Option Class) → Takes o o′ j k
 takes o o′ j None e k = refused o o′ e

@@ -68,15 +68,146 @@ fn jobs_of(rt: &LibcRuntime) -> Result<Vec<Job>, AnyError> {
             continue;
         }
         let Some(job) = job_of(line) else {
-            return Err(format!(rt.alloc(), "line {i}: five numbers make a job: tag, word, pc, a, b")?.into());
+            return Err(format!(
+                rt.alloc(),
+                "line {}: five numbers make a job: tag, word, pc, a, b",
+                i.saturating_add(1)
+            )?.into());
         };
         jobs.push(job)?;
     }
     Ok(jobs)
 }
 
-fn main(rt: LibcRuntime) -> Result<(), AnyError> {
-    let jobs = jobs_of(&rt)?;
-    println!(rt, "{}", jobs.len())?;
+// What the unit holds, as far as the bench gave it.
+#[derive(Drop)]
+struct Bench<'a, U> {
+    unit: U,
+    waiting: &'a [Job],
+    held: Vec<u8>,
+}
+
+impl<'a, U: Unit> Bench<'a, U> {
+    // Gives the unit the next job, unless its tag is still held; the text says what came of it.
+    fn give(&mut self, rt: &LibcRuntime) -> Result<String, AnyError> {
+        let [job, rest @ ..] = self.waiting else {
+            return Ok(String::from_str(rt.alloc(), "-")?);
+        };
+        let tag = job.tag;
+        if self.held.contains(&tag) {
+            return Ok(format!(rt.alloc(), "{tag} waits: its tag is held")?);
+        }
+        match self.unit.take(*job) {
+            Ok(()) => {
+                self.held.push(tag)?;
+                self.waiting = rest;
+                Ok(format!(rt.alloc(), "{tag} taken")?)
+            }
+            // a unit without jobs has room for each of its classes: it will never take this one
+            Err(refusal) if self.held.is_empty() => {
+                self.waiting = rest;
+                Ok(format!(rt.alloc(), "{tag} refused, {refusal}, and dropped")?)
+            }
+            Err(refusal) => Ok(format!(rt.alloc(), "{tag} refused, {refusal}")?),
+        }
+    }
+
+    fn held_text(&self, rt: &LibcRuntime) -> Result<String, AnyError> {
+        let mut text = String::new(rt.alloc());
+        for tag in self.held.iter() {
+            write!(text, " {tag}")?;
+        }
+        Ok(text)
+    }
+
+    // The accepted offer leaves.
+    fn forget(&mut self, offer: Option<Offer>) {
+        let Some(Offer { tag, .. }) = offer else {
+            return;
+        };
+        for i in 0..self.held.len() {
+            if i < self.held.len() && self.held[i] == tag {
+                let _ = self.held.remove(i);
+                return;
+            }
+        }
+    }
+
+    fn step(&mut self, rt: &LibcRuntime, number: usize) -> Result<(), AnyError> {
+        let given = self.give(rt)?;
+        let held = self.held_text(rt)?;
+        let offer = self.unit.offer();
+        let offered = offer_text(rt, offer)?;
+        println!(rt, "step {number}: {given}; held{held}; {offered}")?;
+        self.unit.step(true);
+        self.forget(offer);
+        Ok(())
+    }
+}
+
+fn offer_text(rt: &LibcRuntime, offer: Option<Offer>) -> Result<String, AnyError> {
+    let Some(Offer { tag, outcome }) = offer else {
+        return Ok(String::from_str(rt.alloc(), "no offer")?);
+    };
+    match outcome {
+        Outcome::Done { value, next } => Ok(
+            format!(
+                rt.alloc(),
+                "offers {tag}, value {}, next {}",
+                Hex8(value),
+                Hex8(next)
+            )?,
+        ),
+        Outcome::Misaligned => Ok(format!(rt.alloc(), "offers {tag}, misaligned target")?),
+    }
+}
+
+fn watch<U: Unit + Drop>(rt: &LibcRuntime, mut unit: U, jobs: &[Job]) -> Result<(), AnyError> {
+    unit.clear();
+    let mut bench = Bench {
+        unit,
+        waiting: jobs,
+        held: Vec::new(rt.alloc()),
+    };
+    let limit = jobs.len().saturating_mul(STEPS_A_JOB);
+    for number in 0..limit {
+        if bench.waiting.is_empty() && bench.held.is_empty() {
+            break;
+        }
+        bench.step(rt, number)?;
+    }
     Ok(())
+}
+
+fn run(rt: &LibcRuntime) -> Result<(), AnyError> {
+    let Some(name) = env::args(rt)?.nth(1) else {
+        return Err(USAGE.into());
+    };
+    let jobs = jobs_of(rt)?;
+    let jobs = jobs.as_slice();
+    match name.as_str() {
+        "plain" => watch(rt, Plain::new(), jobs),
+        "multiplier" => watch(rt, Multiplier::new(), jobs),
+        "divider" => watch(rt, Divider::new(), jobs),
+        "single" => watch(rt, Single::new(), jobs),
+        "all" => watch(
+            rt,
+            pile(Plain::new(), Multiplier::new(), Divider::new()),
+            jobs,
+        ),
+        "deep" => {
+            let plain = Join::new(Plain::new(), Plain::new());
+            let slow = Join::new(Multiplier::new(), Divider::new());
+            watch(rt, Join::new(plain, slow), jobs)
+        }
+        _ => Err(USAGE.into()),
+    }
+}
+
+fn main(rt: LibcRuntime) -> Result<(), AnyError> {
+    let result = run(&rt);
+    if let Err(fault) = &result {
+        let _ = eprintln!(rt, "watch: {fault}");
+    }
+    result
 }
