@@ -10,7 +10,6 @@ use Rattle.std.proofs.shelf.Tests.{cases-eq, eqb-true, false≢true}
 use Rattle.std.specs.declared.option.Option.{Option}
 use Rattle.std.specs.declared.option.Option.the-variants.{Some, None}
 use Rattle.std.specs.declared.result.Result.{Result}
-use Rattle.std.specs.declared.result.Result.the-variants.{Ok, Err}
 use Rattle.isa.specs.declared.operation.Class.{Class}
 use Rattle.refusal.specs.declared.NoRoom.{NoRoom}
 use Rattle.units.specs.declared.job.Job.{Job}
@@ -80,19 +79,6 @@ recast : (accepted : Bool) (o o′ : Option Offer) (t : ℕ) (turn : Bool) (x : 
 recast accepted o o′ t turn x a a′ x′ e f m =
     subst (λ (p : Option Offer). SideMoved accepted p t turn x a′ x′) e (subst (λ (b : Bool). SideMoved accepted o t turn x b x′) f m)
 
-module _ {A B : Type 0} (l : UnitModel A) (r : UnitModel B) (sl : A → Type 0) (sr : B → Type 0) where
-  -- the two ways of a step: b says whether both sides offered what was accepted
-  pub sides-step : (u : Join A B) (accepted : Bool) (left : A) (right : B) (b : Bool) → (accepted && bothOffer l r sl sr u) ≡ b
-      → StepCall l sl (u .left) (cond b (not (u .«right_turn»)) accepted) left → StepCall r sr (u .right) (cond b (u .«right_turn») accepted) right
-      → SidesStep l r sl sr u accepted (record { left = left; right = right; «right_turn» = cond b (not (u .«right_turn»)) (u .«right_turn») })
-  sides-step u accepted left right b e p q =
-      let turn = u .«right_turn» in
-      record {
-        turn = ap (λ (x : Bool). cond x (not turn) turn) (sym e);
-        left = subst (λ (x : Bool). StepCall l sl (u .left) (cond x (not turn) accepted) left) (sym e) p;
-        right = subst (λ (x : Bool). StepCall r sr (u .right) (cond x turn accepted) right) (sym e) q;
-      }
-
 module _ {A B : Type 0} (l : UnitModel A) (r : UnitModel B) (sl : A → Type 0) (sr : B → Type 0) (kl : Keeps l sl) (kr : Keeps r sr) where
   abbrev Sounds : Join A B → Type 0
   Sounds = Sound l r sl sr
@@ -150,15 +136,6 @@ module _ {A B : Type 0} (l : UnitModel A) (r : UnitModel B) (sl : A → Type 0) 
 room-joined : (f g : Class → Bool) (o : Option Class) → (roomIn f o || roomIn g o) ≡ roomIn (λ c. f c || g c) o
 room-joined f g (Some c) = refl
 room-joined f g None = refl
-
--- the answer says whether there was room
-pub ok-room : (b : Bool) (x : Unit {0}) (answer : Result (Unit {0}) NoRoom) → answer ≡ takeAnswer b → answer ≡ Ok x → b ≡ true
-ok-room true x answer e f = refl
-ok-room false x answer e f = let z : _≡_ {A = ℕ} 0 1 = cc in absurd (omega arith)
-
-pub err-room : (b : Bool) (x : NoRoom) (answer : Result (Unit {0}) NoRoom) → answer ≡ takeAnswer b → answer ≡ Err x → b ≡ false
-err-room true x answer e f = let z : _≡_ {A = ℕ} 0 1 = cc in absurd (omega arith)
-err-room false x answer e f = refl
 
 same-join : {A B : Type 0} (x x′ : A) (y y′ : B) (b b′ : Bool) → x′ ≡ x → y′ ≡ y → b′ ≡ b
     → _≡_ {A = Join A B} (record { left = x′; right = y′; «right_turn» = b′ }) (record { left = x; right = y; «right_turn» = b })
@@ -247,15 +224,6 @@ module _ {A B : Type 0} (l : UnitModel A) (r : UnitModel B) (sl : A → Type 0) 
             (taken-joined a (roomFor r (u .right) (j .word)) u j u′ (sides .turn) (sides .left .taken) (right-taken a (u .right) j (u′ .right) (sides .right)));
       }
 
-  -- the two ways of a take: a says whether the left side has room
-  pub sides-take : (u : Join A B) (j : Job) (left : A) (right : B) (a : Bool) → roomFor l (u .left) (j .word) ≡ a
-      → TakeCall l sl (u .left) j left → RightTakes l r sl sr a (u .right) j right
-      → SidesTake l r sl sr u j (record { left = left; right = right; «right_turn» = u .«right_turn» })
-  sides-take u j left right a e p q =
-      record { turn = refl; left = p; right = subst (λ (b : Bool). RightTakes l r sl sr b (u .right) j right) (sym e) q }
-
-  pub answer-joined : (u : Join A B) (j : Job) (a : Bool) → roomFor l (u .left) (j .word) ≡ a
-      → takeAnswer (a || roomFor r (u .right) (j .word)) ≡ takeAnswer (roomFor (joinMeans l r) u (j .word))
-  answer-joined u j a e =
-      let b = roomFor r (u .right) (j .word) in
-      ap takeAnswer (ap (λ (x : Bool). x || b) (sym e) ∙ room-joined (l .room (u .left)) (r .room (u .right)) (wordClass (j .word)))
+  pub answer-joined : (u : Join A B) (w : ℕ) (answer : Result (Unit {0}) NoRoom)
+      → answer ≡ takeAnswer (roomFor l (u .left) w || roomFor r (u .right) w) → answer ≡ takeAnswer (roomFor (joinMeans l r) u w)
+  answer-joined u w answer e = e ∙ ap takeAnswer (room-joined (l .room (u .left)) (r .room (u .right)) (wordClass w))

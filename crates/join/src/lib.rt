@@ -1,5 +1,6 @@
 // A unit made of two: it serves what either serves, and the two take turns where both offer.
 ghost use mathlib.Core.Path.{_≡_};
+ghost use mathlib.Core.Bool.{_||_};
 ghost use Rattle.units.specs.Meaning.{Same, Empty, roomFor, takeAnswer};
 ghost use Rattle.join.specs.Joined.{joined, joinMeans, Sound, contested};
 ghost use Rattle.join.specs.Sides.{JoinTaken, JoinStepped, SidesTake, SidesStep, SidesClear};
@@ -28,6 +29,31 @@ impl<A: Unit, B: Unit> Join<A, B> {
         }
     }
 
+    fn take_left_first(&mut self, job: Job) -> Result<(), NoRoom>
+        ensures answer { λ r. ⌜ r ≡ takeAnswer (roomFor (A·Unit .means) (now (self .entry) .left) (job .word) || roomFor (B·Unit .means) (now (self .entry) .right) (job .word)) ⌝ }
+        ensures sides { λ _. ⌜ SidesTake (A·Unit .means) (B·Unit .means) (A·Unit .sound) (B·Unit .sound) (now (self .entry)) job (now (self .exit)) ⌝ }
+    {
+        match self.left.take(job) {
+            Ok(()) => Ok(()),
+            Err(_) => self.right.take(job),
+        }
+    }
+
+    fn step_in_turn(&mut self, accepted: bool)
+        ensures { λ _. ⌜ SidesStep (A·Unit .means) (B·Unit .means) (A·Unit .sound) (B·Unit .sound) (now (self .entry)) accepted (now (self .exit)) ⌝ }
+    {
+        if accepted && self.contested() {
+            // the refused side keeps its offer, and is next
+            self.left.step(!self.right_turn);
+            self.right.step(self.right_turn);
+            self.right_turn = !self.right_turn;
+        } else {
+            self.left.step(accepted);
+            self.right.step(accepted);
+        }
+    }
+
+    // Both sides offer.
     fn contested(&self) -> bool
         ensures { λ r. ⌜ r ≡ contested (A·Unit .means .offer (now (self .entry) .left)) (B·Unit .means .offer (now (self .entry) .right)) ⌝ }
     {
@@ -50,10 +76,7 @@ pub impl<A: Unit, B: Unit> Unit for Join<A, B> as JoinUnit {
         ensures taken { λ _. ⌜ JoinTaken (A·Unit .means) (B·Unit .means) (A·Unit .sound) (B·Unit .sound) (now (self .entry)) job (now (self .exit)) ⌝ }
         ensures sides { λ _. ⌜ SidesTake (A·Unit .means) (B·Unit .means) (A·Unit .sound) (B·Unit .sound) (now (self .entry)) job (now (self .exit)) ⌝ }
     {
-        match self.left.take(job) {
-            Ok(()) => Ok(()),
-            Err(_) => self.right.take(job),
-        }
+        self.take_left_first(job)
     }
 
     fn offer(&self) -> Option<Offer> {
@@ -69,15 +92,7 @@ pub impl<A: Unit, B: Unit> Unit for Join<A, B> as JoinUnit {
         ensures stepped { λ _. ⌜ JoinStepped (A·Unit .means) (B·Unit .means) (A·Unit .sound) (B·Unit .sound) (now (self .entry)) accepted (now (self .exit)) ⌝ }
         ensures sides { λ _. ⌜ SidesStep (A·Unit .means) (B·Unit .means) (A·Unit .sound) (B·Unit .sound) (now (self .entry)) accepted (now (self .exit)) ⌝ }
     {
-        if accepted && self.contested() {
-            // the refused side keeps its offer, and is next
-            self.left.step(!self.right_turn);
-            self.right.step(self.right_turn);
-            self.right_turn = !self.right_turn;
-        } else {
-            self.left.step(accepted);
-            self.right.step(accepted);
-        }
+        self.step_in_turn(accepted)
     }
 
     fn clear(&mut self)
