@@ -2,12 +2,14 @@
 ghost use mathlib.Core.Path.{_≡_};
 ghost use mathlib.Core.Bool.{_||_};
 ghost use Rattle.units.specs.Meaning.{Same, Empty, roomFor, takeAnswer};
+ghost use Rattle.units.specs.Runs.{OfferedWithinStay};
 ghost use Rattle.join.specs.Joined.{joined, joinMeans, Sound, contested};
 ghost use Rattle.join.specs.Sides.{JoinTaken, JoinStepped, SidesTake, SidesStep, SidesClear};
 use isa::operation::Class;
 use refusal::NoRoom;
 use units::job::Job;
 use units::job::Offer;
+use units::runs::offered_within_stay;
 use units::unit::Unit;
 
 #[derive(Drop)]
@@ -125,4 +127,11 @@ pub fn tall_pile<A: Unit, B: Unit, C: Unit, D: Unit, E: Unit>(
     ensures { λ r. ⌜ r ≡ joined (joined (joined (joined a b) c) d) e ⌝ }
 {
     pile(pile(a, b, c), d, e)
+}
+
+// Whatever its sides are, a job that a join takes is offered within twice the larger of their longest stays.
+pub fn offered_within_twice<A: Unit, B: Unit>(join: &Join<A, B>)
+    ensures { λ _. ⌜ OfferedWithinStay (joinMeans (A·Unit .means) (B·Unit .means)) (Sound (A·Unit .means) (B·Unit .means) (A·Unit .sound) (B·Unit .sound)) ⌝ }
+{
+    offered_within_stay(join)
 }
