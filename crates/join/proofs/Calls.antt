@@ -1,27 +1,24 @@
 -- What a call does to the sides of a join, it does to the join as a unit.
 -- Assumes nothing.
-use Prim.Native.Nat.{ℕ, _+_, _*_, max, _≤_}
+use Prim.Native.Nat.{ℕ}
 use mathlib.Core.Path.{_≡_, refl, sym, ap, subst, _∙_}
-use mathlib.Core.Bool.{Bool, true, false, cond, not, _&&_, _||_}
-use mathlib.Core.Logic.{_⊎_, inl, inr}
-use native.Mathlib.Omega.{arith}
-use lib.Dec.{eqb}
+use mathlib.Core.Bool.{Bool, true, false, not, _||_}
+use mathlib.Core.Logic.{inl, inr}
 use Rattle.std.proofs.shelf.Tests.{cases-eq, eqb-true, false≢true}
 use Rattle.std.specs.declared.option.Option.{Option}
 use Rattle.std.specs.declared.option.Option.the-variants.{Some, None}
 use Rattle.std.specs.declared.result.Result.{Result}
-use Rattle.std.specs.declared.result.Result.the-variants.{Ok, Err}
 use Rattle.isa.specs.declared.operation.Class.{Class}
 use Rattle.refusal.specs.declared.NoRoom.{NoRoom}
 use Rattle.units.specs.declared.job.Job.{Job}
 use Rattle.units.specs.declared.job.Offer.{Offer}
 use Rattle.units.specs.Jobs.{wordClass}
-use Rattle.units.specs.Meaning.{UnitModel, Held, Same, Fell, Holds, Offers, Joined, Taken, Moved, Stepped, Empty, roomIn, roomFor, takeAnswer, offersTag}
-use Rattle.units.specs.Calls.{Keeps, TakeCall, StepCall, ClearCall}
+use Rattle.units.specs.Meaning.{UnitModel, Held, Same, Fell, Holds, Offers, Joined, Taken, Moved, roomIn, roomFor, takeAnswer, offersTag}
+use Rattle.units.specs.Calls.{Keeps, TakeCall, StepCall}
 use Rattle.join.specs.declared.Join.{Join}
 use Rattle.join.specs.Joined.{contested, offered, turned, granted, sideHeld, firstOf, joinMeans, Apart, Sound}
-use Rattle.join.specs.Sides.{RightTakes, SidesTake, SidesStep, SidesClear, bothOffer}
-use Rattle.join.proofs.Tags.{side-moves, first-moved, apart-moved, apart-left, apart-right, fell-same, first-fell, held-stays, holds-first, holds-left, holds-right, first-empty, apart-fell, apart-none, none-apart}
+use Rattle.join.specs.Sides.{RightTakes, SidesTake, SidesStep, bothOffer}
+use Rattle.join.proofs.Tags.{side-moves, first-moved, apart-moved, apart-left, apart-right, fell-same, both-stay, holds-first, holds-left, holds-right, first-empty, apart-fell, apart-none, none-apart}
 
 same-joined : {A B : Type 0} (l : UnitModel A) (r : UnitModel B) (u u′ : Join A B)
     → Same l (u .left) (u′ .left) → Same r (u .right) (u′ .right) → Same (joinMeans l r) u u′
@@ -80,19 +77,6 @@ recast : (accepted : Bool) (o o′ : Option Offer) (t : ℕ) (turn : Bool) (x : 
 recast accepted o o′ t turn x a a′ x′ e f m =
     subst (λ (p : Option Offer). SideMoved accepted p t turn x a′ x′) e (subst (λ (b : Bool). SideMoved accepted o t turn x b x′) f m)
 
-module _ {A B : Type 0} (l : UnitModel A) (r : UnitModel B) (sl : A → Type 0) (sr : B → Type 0) where
-  -- the two ways of a step: b says whether both sides offered what was accepted
-  pub sides-step : (u : Join A B) (accepted : Bool) (left : A) (right : B) (b : Bool) → (accepted && bothOffer l r sl sr u) ≡ b
-      → StepCall l sl (u .left) (cond b (not (u .«right_turn»)) accepted) left → StepCall r sr (u .right) (cond b (u .«right_turn») accepted) right
-      → SidesStep l r sl sr u accepted (record { left = left; right = right; «right_turn» = cond b (not (u .«right_turn»)) (u .«right_turn») })
-  sides-step u accepted left right b e p q =
-      let turn = u .«right_turn» in
-      record {
-        turn = ap (λ (x : Bool). cond x (not turn) turn) (sym e);
-        left = subst (λ (x : Bool). StepCall l sl (u .left) (cond x (not turn) accepted) left) (sym e) p;
-        right = subst (λ (x : Bool). StepCall r sr (u .right) (cond x turn accepted) right) (sym e) q;
-      }
-
 module _ {A B : Type 0} (l : UnitModel A) (r : UnitModel B) (sl : A → Type 0) (sr : B → Type 0) (kl : Keeps l sl) (kr : Keeps r sr) where
   abbrev Sounds : Join A B → Type 0
   Sounds = Sound l r sl sr
@@ -104,7 +88,7 @@ module _ {A B : Type 0} (l : UnitModel A) (r : UnitModel B) (sl : A → Type 0) 
       let lo = l .offer (u .left) in
       let ro = r .offer (u .right) in
       let gone : offersTag ro t ≡ true → l .held (u .left) t ≡ None =
-      λ e. let h = offers-held r (u .right) t ro refl (kr .offers (u .right) (s .right)) e in apart-right (h .0) (l .held (u .left) t) (r .held (u .right) t) (h .1) (s .apart t) in
+      λ e. let h = offers-held r (u .right) t ro refl (kr .offers (u .right) (s .right)) e in apart-right (h .0) _ _ (h .1) (s .apart t) in
       recast accepted (offered (not (not turn)) lo ro) (offered turn lo ro) t (not turn) (l .held (u .left) t) (turned accepted (contested lo ro) (not turn)) (not (u′ .«right_turn»)) (l .held (u′ .left) t)
       (ap (λ (b : Bool). offered b lo ro) (not-not turn))
       (not-turned accepted (contested lo ro) turn ∙ ap not (sym (sides .turn)))
@@ -117,7 +101,7 @@ module _ {A B : Type 0} (l : UnitModel A) (r : UnitModel B) (sl : A → Type 0) 
       let lo = l .offer (u .left) in
       let ro = r .offer (u .right) in
       let gone : offersTag lo t ≡ true → r .held (u .right) t ≡ None =
-      λ e. let h = offers-held l (u .left) t lo refl (kl .offers (u .left) (s .left)) e in apart-left (h .0) (l .held (u .left) t) (r .held (u .right) t) (h .1) (s .apart t) in
+      λ e. let h = offers-held l (u .left) t lo refl (kl .offers (u .left) (s .left)) e in apart-left (h .0) _ _ (h .1) (s .apart t) in
       let swapped = contested-swaps lo ro in
       recast accepted (offered (not turn) ro lo) (offered turn lo ro) t turn (r .held (u .right) t) (turned accepted (contested ro lo) turn) (u′ .«right_turn») (r .held (u′ .right) t)
       (offered-swaps turn lo ro)
@@ -134,13 +118,12 @@ module _ {A B : Type 0} (l : UnitModel A) (r : UnitModel B) (sl : A → Type 0) 
         stepped = λ s.
             let left = sides .left .stepped (s .left) in
             let right = sides .right .stepped (s .right) in (
-              λ t. first-moved accepted (offersTag (joinMeans l r .offer u) t) (sideHeld (not turn) (l .held (u .left) t)) (sideHeld (not (u′ .«right_turn»)) (l .held (u′ .left) t)) (sideHeld turn (r .held (u .right) t)) (sideHeld (u′ .«right_turn») (r .held (u′ .right) t)) (left-moves u accepted u′ s sides t) (right-moves u accepted u′ s sides t),
+              λ t. first-moved accepted (offersTag (joinMeans l r .offer u) t) _ _ _ _ (left-moves u accepted u′ s sides t) (right-moves u accepted u′ s sides t),
               record {
                 left = left .1;
                 right = right .1;
                 apart = λ t.
-                    apart-moved (granted accepted both (not turn)) (offersTag (l .offer (u .left)) t) (granted accepted both turn) (offersTag (r .offer (u .right)) t) (l .held (u .left) t) (l .held (u′ .left) t) (r .held (u .right) t) (r .held (u′ .right) t)
-                    (left .0 t) (right .0 t) (s .apart t);
+                    apart-moved (granted accepted both (not turn)) (offersTag (l .offer (u .left)) t) (granted accepted both turn) (offersTag (r .offer (u .right)) t) _ _ _ _ (left .0 t) (right .0 t) (s .apart t);
               },
             );
       }
@@ -150,15 +133,6 @@ module _ {A B : Type 0} (l : UnitModel A) (r : UnitModel B) (sl : A → Type 0) 
 room-joined : (f g : Class → Bool) (o : Option Class) → (roomIn f o || roomIn g o) ≡ roomIn (λ c. f c || g c) o
 room-joined f g (Some c) = refl
 room-joined f g None = refl
-
--- the answer says whether there was room
-pub ok-room : (b : Bool) (x : Unit {0}) (answer : Result (Unit {0}) NoRoom) → answer ≡ takeAnswer b → answer ≡ Ok x → b ≡ true
-ok-room true x answer e f = refl
-ok-room false x answer e f = let z : _≡_ {A = ℕ} 0 1 = cc in absurd (omega arith)
-
-pub err-room : (b : Bool) (x : NoRoom) (answer : Result (Unit {0}) NoRoom) → answer ≡ takeAnswer b → answer ≡ Err x → b ≡ false
-err-room true x answer e f = let z : _≡_ {A = ℕ} 0 1 = cc in absurd (omega arith)
-err-room false x answer e f = refl
 
 same-join : {A B : Type 0} (x x′ : A) (y y′ : B) (b b′ : Bool) → x′ ≡ x → y′ ≡ y → b′ ≡ b
     → _≡_ {A = Join A B} (record { left = x′; right = y′; «right_turn» = b′ }) (record { left = x; right = y; «right_turn» = b })
@@ -188,8 +162,7 @@ module _ {A B : Type 0} (l : UnitModel A) (r : UnitModel B) (sl : A → Type 0) 
           joins = holds-first (not (u′ .«right_turn»)) (u′ .«right_turn») j (x′ (j .tag)) (y′ (j .tag)) holds;
           others = λ t ne.
               subst (λ (b : Bool). Fell 0 (firstOf (sideHeld (not turn) (x t)) (sideHeld turn (y t))) (firstOf (sideHeld (not b) (x′ t)) (sideHeld b (y′ t)))) (sym stays)
-              (first-fell 0 (sideHeld (not turn) (x t)) (sideHeld (not turn) (x′ t)) (sideHeld turn (y t)) (sideHeld turn (y′ t))
-              (held-stays (not turn) (x t) (x′ t) (left t ne)) (held-stays turn (y t) (y′ t) (right t ne)));
+              (both-stay (not turn) turn (x t) (x′ t) (y t) (y′ t) (left t ne) (right t ne));
         },
         record {
           left = sl′;
@@ -215,16 +188,16 @@ module _ {A B : Type 0} (l : UnitModel A) (r : UnitModel B) (sl : A → Type 0) 
       let joined = left (s .left) (none .0) in
       let gone : r .held (u′ .right) (j .tag) ≡ None = ap (λ (v : B). r .held v (j .tag)) right ∙ none .1 in
       job-joins u j u′ stays s
-      (holds-left j (l .held (u′ .left) (j .tag)) (r .held (u′ .right) (j .tag)) (joined .0 .joins))
-      (none-apart (l .held (u′ .left) (j .tag)) (r .held (u′ .right) (j .tag)) gone)
+      (holds-left j _ (r .held (u′ .right) (j .tag)) (joined .0 .joins))
+      (none-apart (l .held (u′ .left) (j .tag)) _ gone)
       (joined .0 .others) (λ t ne. unit-stays r (u .right) (u′ .right) right t) (joined .1) (subst sr (sym right) (s .right))
   taken-joined false true u j u′ stays left right = λ s free.
       let none = first-empty (not (u .«right_turn»)) (u .«right_turn») (l .held (u .left) (j .tag)) (r .held (u .right) (j .tag)) free in
       let joined = right (s .right) (none .1) in
       let gone : l .held (u′ .left) (j .tag) ≡ None = ap (λ (v : A). l .held v (j .tag)) left ∙ none .0 in
       job-joins u j u′ stays s
-      (holds-right j (l .held (u′ .left) (j .tag)) (r .held (u′ .right) (j .tag)) gone (joined .0 .joins))
-      (apart-none (l .held (u′ .left) (j .tag)) (r .held (u′ .right) (j .tag)) gone)
+      (holds-right j _ _ gone (joined .0 .joins))
+      (apart-none _ (r .held (u′ .right) (j .tag)) gone)
       (λ t ne. unit-stays l (u .left) (u′ .left) left t) (joined .0 .others) (subst sl (sym left) (s .left)) (joined .1)
   taken-joined false false u j u′ stays left right =
       same-join (u .left) (u′ .left) (u .right) (u′ .right) (u .«right_turn») (u′ .«right_turn») left right stays
@@ -247,15 +220,6 @@ module _ {A B : Type 0} (l : UnitModel A) (r : UnitModel B) (sl : A → Type 0) 
             (taken-joined a (roomFor r (u .right) (j .word)) u j u′ (sides .turn) (sides .left .taken) (right-taken a (u .right) j (u′ .right) (sides .right)));
       }
 
-  -- the two ways of a take: a says whether the left side has room
-  pub sides-take : (u : Join A B) (j : Job) (left : A) (right : B) (a : Bool) → roomFor l (u .left) (j .word) ≡ a
-      → TakeCall l sl (u .left) j left → RightTakes l r sl sr a (u .right) j right
-      → SidesTake l r sl sr u j (record { left = left; right = right; «right_turn» = u .«right_turn» })
-  sides-take u j left right a e p q =
-      record { turn = refl; left = p; right = subst (λ (b : Bool). RightTakes l r sl sr b (u .right) j right) (sym e) q }
-
-  pub answer-joined : (u : Join A B) (j : Job) (a : Bool) → roomFor l (u .left) (j .word) ≡ a
-      → takeAnswer (a || roomFor r (u .right) (j .word)) ≡ takeAnswer (roomFor (joinMeans l r) u (j .word))
-  answer-joined u j a e =
-      let b = roomFor r (u .right) (j .word) in
-      ap takeAnswer (ap (λ (x : Bool). x || b) (sym e) ∙ room-joined (l .room (u .left)) (r .room (u .right)) (wordClass (j .word)))
+  pub answer-joined : (u : Join A B) (w : ℕ) (answer : Result (Unit {0}) NoRoom)
+      → answer ≡ takeAnswer (roomFor l (u .left) w || roomFor r (u .right) w) → answer ≡ takeAnswer (roomFor (joinMeans l r) u w)
+  answer-joined u w answer e = e ∙ ap takeAnswer (room-joined (l .room (u .left)) (r .room (u .right)) (wordClass w))

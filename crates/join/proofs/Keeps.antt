@@ -1,20 +1,18 @@
 -- A join of two units keeps what a unit keeps.
 -- Assumes nothing.
 use Prim.Native.Nat.{ℕ, _*_, max, _≤_}
-use mathlib.Core.Path.{_≡_, refl, sym, ap, subst, _∙_}
+use mathlib.Core.Path.{_≡_, ap, _∙_}
 use mathlib.Core.Bool.{Bool, true, false, not}
-use mathlib.Core.Logic.{_⊎_, inl, inr, ⊎-elim}
+use mathlib.Core.Logic.{_⊎_, inl, inr}
 use native.Mathlib.Omega.{arith}
 use Rattle.std.proofs.shelf.Tests.{or-cases, or-left, or-right}
 use Rattle.std.specs.declared.option.Option.{Option}
 use Rattle.std.specs.declared.option.Option.the-variants.{Some, None}
-use Rattle.isa.specs.declared.operation.Class.{Class}
 use Rattle.units.specs.declared.job.Offer.{Offer}
-use Rattle.units.specs.Jobs.{jobOutcome}
 use Rattle.units.specs.Meaning.{UnitModel, Held, Dues, Tags, Offers, Rooms, EmptyRooms}
 use Rattle.units.specs.Calls.{Keeps}
 use Rattle.join.specs.declared.Join.{Join}
-use Rattle.join.specs.Joined.{offered, doubledDue, doubled, sideHeld, firstOf, joinMeans, Apart, Sound}
+use Rattle.join.specs.Joined.{offered, doubledDue, doubled, sideHeld, firstOf, joinMeans, Sound}
 use Rattle.join.proofs.Tags.{by-side, apart-right, first-empty}
 
 -- a due of a side, at most n, in the join

@@ -1,7 +1,7 @@
 -- What a join holds under one tag, by what its sides hold under it.
 -- Assumes nothing.
 use Prim.Native.Nat.{ℕ, _+_, _≤_}
-use mathlib.Core.Path.{_≡_, refl, sym, ap, subst, _∙_}
+use mathlib.Core.Path.{_≡_, refl, ap, subst}
 use mathlib.Core.Bool.{Bool, true, false, not}
 use native.Mathlib.Omega.{arith}
 use Rattle.std.specs.declared.option.Option.{Option}
@@ -25,7 +25,7 @@ fell-none k None None e f = refl
 fell-none k None (Some h′) e f = absurd f
 fell-none k (Some h) x′ e f = not-none h (Some h) e refl
 
-pub first-fell : (k : ℕ) (x x′ y y′ : Option Held) → Fell k x x′ → Fell k y y′ → Fell k (firstOf x y) (firstOf x′ y′)
+first-fell : (k : ℕ) (x x′ y y′ : Option Held) → Fell k x x′ → Fell k y y′ → Fell k (firstOf x y) (firstOf x′ y′)
 first-fell k None None y y′ f g = g
 first-fell k None (Some h′) y y′ f g = absurd f
 first-fell k (Some h) None y y′ f g = absurd f
@@ -48,11 +48,16 @@ held-falls turn turn′ None (Some h′) f = absurd f
 held-falls turn turn′ (Some h) None f = absurd f
 held-falls turn turn′ (Some h) (Some h′) f = (f .0, due-falls turn turn′ (h .due) (h′ .due) (f .1))
 
-pub held-stays : (turn : Bool) (x x′ : Option Held) → Fell 0 x x′ → Fell 0 (sideHeld turn x) (sideHeld turn x′)
+held-stays : (turn : Bool) (x x′ : Option Held) → Fell 0 x x′ → Fell 0 (sideHeld turn x) (sideHeld turn x′)
 held-stays turn None None f = tt
 held-stays turn None (Some h′) f = absurd f
 held-stays turn (Some h) None f = absurd f
 held-stays turn (Some h) (Some h′) f = (f .0, due-stays turn (h .due) (h′ .due) (f .1))
+
+pub both-stay : (turn turn′ : Bool) (x x′ y y′ : Option Held) → Fell 0 x x′ → Fell 0 y y′
+    → Fell 0 (firstOf (sideHeld turn x) (sideHeld turn′ y)) (firstOf (sideHeld turn x′) (sideHeld turn′ y′))
+both-stay turn turn′ x x′ y y′ f g =
+    first-fell 0 (sideHeld turn x) (sideHeld turn x′) (sideHeld turn′ y) (sideHeld turn′ y′) (held-stays turn x x′ f) (held-stays turn′ y y′ g)
 
 -- a side that was refused is next, which makes up for a due that did not fall
 held-turns : (x x′ : Option Held) → ((h : Held) → x ≡ Some h → 1 ≤ h .due) → Fell 0 x x′ → Fell 1 (sideHeld false x) (sideHeld true x′)

@@ -1,13 +1,11 @@
 -- What a join means, by what its two sides mean.
 -- Assumes nothing.
 use Prim.Native.Nat.{ℕ, _-_, _*_, max}
-use mathlib.Core.Path.{_≡_}
 use mathlib.Core.Bool.{Bool, true, false, cond, not, _&&_, _||_}
 use Rattle.std.specs.declared.option.Option.{Option}
 use Rattle.std.specs.declared.option.Option.the-variants.{Some, None}
-use Rattle.units.specs.declared.job.Job.{Job}
 use Rattle.units.specs.declared.job.Offer.{Offer}
-use Rattle.units.specs.Meaning.{UnitModel, Held, Same, Stepped, Taken, Empty, roomFor}
+use Rattle.units.specs.Meaning.{UnitModel, Held}
 use Rattle.join.specs.declared.Join.{Join}
 
 -- two units as one, with the turn at the left

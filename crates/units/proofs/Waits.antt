@@ -5,14 +5,13 @@ use mathlib.Core.Path.{_≡_, refl, sym, ap, subst, _∙_}
 use mathlib.Core.Bool.{Bool, true, false}
 use mathlib.Core.Logic.{_⊎_, inl, inr}
 use native.Mathlib.Omega.{arith}
-use lib.Dec.{eqb}
 use Rattle.std.proofs.shelf.Tests.{eqb-true, false≢true}
 use Rattle.std.specs.declared.option.Option.{Option}
 use Rattle.std.specs.declared.option.Option.the-variants.{Some, None}
 use Rattle.units.specs.declared.job.Job.{Job}
 use Rattle.units.specs.declared.job.Offer.{Offer}
 use Rattle.units.specs.Jobs.{jobOutcome}
-use Rattle.units.specs.Meaning.{UnitModel, Held, Fell, Holds, Moved, Joined, Taken, roomFor, offersTag}
+use Rattle.units.specs.Meaning.{UnitModel, Held, Fell, Holds, Moved, Taken, roomFor, offersTag}
 use Rattle.units.specs.Calls.{Keeps}
 use Rattle.units.specs.Runs.{Fresh, Run, end, take, step, acceptedSteps, OffersJob, Delivers, OfferedWithinStay}
 
