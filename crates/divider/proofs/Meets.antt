@@ -16,14 +16,14 @@ use Rattle.isa.specs.declared.operation.Class.{Class}
 use Rattle.units.specs.declared.job.Job.{Job}
 use Rattle.units.specs.declared.job.Offer.{Offer}
 use Rattle.units.specs.Jobs.{wordClass, jobOutcome}
-use Rattle.units.specs.Meaning.{Held, Fell, Holds, Moved, offersTag, roomIn, roomFor, takeAnswer, Taken, Stepped, Dues, Tags, Offers, Rooms, EmptyRooms}
+use Rattle.units.specs.Meaning.{Held, Fell, Moved, roomIn, roomFor, takeAnswer, Taken, Stepped}
 use Rattle.divider.specs.declared.Divider.{Divider}
 use Rattle.divider.specs.declared.division.Division.{Division}
 use Rattle.divider.specs.declared.working.Working.{Working as Work}
 use Rattle.divider.specs.declared.state.State.{State}
 use Rattle.divider.specs.declared.state.State.the-variants.{Idle, Working, Finished}
-use Rattle.divider.specs.Divisions.{isDivide, divisionIn}
-use Rattle.divider.specs.States.{idle, startOf, stepOr, admitted, taken, tookIn, stepped, steppedIn}
+use Rattle.divider.specs.Divisions.{isDivide}
+use Rattle.divider.specs.States.{startOf, stepOr, admitted, taken, tookIn, stepped, steppedIn}
 use Rattle.divider.specs.Model.{heldUnder, heldIn, roomOf, outcomeIn, offerOf, model, Sound, SoundState}
 use Rattle.divider.proofs.Values.{word-room, word-no-room, job-done}
 

@@ -1,5 +1,4 @@
 -- What is admitted starts, and anything else is refused.
-use Prim.Native.Nat.{_<_, _^_}
 use native.Mathlib.Omega.{arith}
 use mathlib.Core.Path.{_≡_, refl, sym, ap, subst, _∙_}
 use Rattle.std.specs.declared.option.Option.the-variants.{Some, None}

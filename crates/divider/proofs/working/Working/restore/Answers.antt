@@ -1,9 +1,7 @@
 -- One restoring step, at what the struct says that it holds.
 use Prim.Native.Nat.{_+_, _*_, _/_, _%_, _-_, _^_, _≤_, _<_}
 use native.Mathlib.Omega.{arith}
-use mathlib.Core.Path.{_≡_}
 use Rattle.divider.specs.declared.working.Working.{Working as Work}
-use Rattle.divider.specs.Restoring.{quotientAt, remainderAt}
 use Rattle.divider.proofs.Restoring.{divisor-off, divisor-left, remainder-fits, quotient-fits}
 use Rattle.divider.proofs.working.Working.restore.Needs as need
 
