@@ -184,3 +184,71 @@ mod arguments_and_texts {
         }
     }
 }
+
+#[cfg(test)]
+mod piles_of_units {
+    use divider::Divider;
+    use divider::DividerUnit;
+    use isa::outcome::Outcome;
+    use join::JoinUnit;
+    use join::pile;
+    use join::tall_pile;
+    use pipelines::multiplier::Multiplier;
+    use pipelines::multiplier::MultiplierUnit;
+    use pipelines::plain::Plain;
+    use pipelines::plain::PlainUnit;
+    use single::Single;
+    use single::SingleUnit;
+    use std::test::*;
+    use units::job::Job;
+    use units::job::Offer;
+    use units::unit::Unit;
+
+    // -7 by 0, with tag 3 at address 8
+    const DIVISION: Job = Job {
+        tag: 3,
+        word: 0x0220_c1b3,
+        pc: 8,
+        a: 0xffff_fff9,
+        b: 0,
+    };
+
+    // After how many accepted steps the job is offered, and its value.
+    fn wait<U: Unit>(unit: &mut U, job: Job) -> Option<(u32, u32)> {
+        unit.clear();
+        if unit.take(job).is_err() {
+            return None;
+        }
+        for steps in 0..200 {
+            if let Some(Offer { outcome: Outcome::Done { value, .. }, .. }) = unit.offer() {
+                return Some((steps, value));
+            }
+            unit.step(true);
+        }
+        None
+    }
+
+    #[test]
+    fn a_pile_of_three() -> Result<(), Fail> {
+        let mut unit = pile(Plain::new(), Multiplier::new(), Divider::new());
+        check_eq(wait(&mut unit, DIVISION), Some((32, 0xffff_ffff)))
+    }
+
+    #[test]
+    fn four_joins_deep() -> Result<(), Fail> {
+        let mut unit = tall_pile(
+            Divider::new(),
+            Single::new(),
+            Plain::new(),
+            Multiplier::new(),
+            Plain::new(),
+        );
+        check_eq(wait(&mut unit, DIVISION), Some((32, 0xffff_ffff)))?;
+        let product = Job {
+            word: 0x0220_81b3,
+            b: 3,
+            ..DIVISION
+        };
+        check_eq(wait(&mut unit, product), Some((3, 0xffff_ffeb)))
+    }
+}

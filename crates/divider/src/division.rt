@@ -36,7 +36,7 @@ fn of_operation(operation: Operation) -> Option<Division>
 }
 
 // None for a word that asks for no division.
-pub fn of_word(word: u32) -> Option<Division>
+pub(crate) fn of_word(word: u32) -> Option<Division>
     ensures { λ r. ⌜ r ≡ divisionIn word ⌝ }
 {
     match words::read(word) {
@@ -58,14 +58,14 @@ impl Division {
         self.signed && x.cast_signed() < 0
     }
 
-    pub fn magnitude(self, x: u32) -> u32
+    pub(crate) fn magnitude(self, x: u32) -> u32
         ensures { λ r. ⌜ r ≡ magnitude (self .signed) x ⌝ }
     {
         negate_if(self.is_negative(x), x)
     }
 
     // The signed result, by the quotient and the remainder of the magnitudes of a and b.
-    pub fn sign(self, a: u32, b: u32, quotient: u32, remainder: u32) -> u32
+    pub(crate) fn sign(self, a: u32, b: u32, quotient: u32, remainder: u32) -> u32
         ensures { λ r. ⌜ r ≡ signed self a b quotient remainder ⌝ }
     {
         if self.remainder {

@@ -26,7 +26,7 @@ pub enum State {
 
 impl State {
     // The division that a word asks for, while no other is held.
-    pub fn admit(self, word: u32) -> Option<Division>
+    pub(crate) fn admit(self, word: u32) -> Option<Division>
         ensures { λ r. ⌜ r ≡ admitted self word ⌝ }
     {
         match self {
@@ -37,7 +37,7 @@ impl State {
 }
 
 impl Working {
-    pub fn start(division: Division, job: Job) -> Working
+    pub(crate) fn start(division: Division, job: Job) -> Working
         ensures { λ r. ⌜ r ≡ startOf division job ⌝ }
     {
         Working {
@@ -65,7 +65,7 @@ impl Working {
         }
     }
 
-    pub fn next(self) -> State
+    pub(crate) fn next(self) -> State
         ensures { λ r. ⌜ r ≡ nextOf self ⌝ }
     {
         let (quotient, remainder) = self.restore();

@@ -60,7 +60,7 @@ impl Timed {
 }
 
 impl Queue {
-    pub fn has_room(self, capacity: u8) -> bool
+    pub(crate) fn has_room(self, capacity: u8) -> bool
         ensures { λ r. ⌜ r ≡ ltb (length (jobsOf self)) capacity ⌝ }
     {
         let len = match self {
@@ -73,7 +73,7 @@ impl Queue {
         len < capacity
     }
 
-    pub fn push(self, job: Job) -> Queue
+    pub(crate) fn push(self, job: Job) -> Queue
         requires { ⌜ length (jobsOf self) < 4 ⌝ }
         ensures { λ r. ⌜ jobsOf r ≡ pushed job (jobsOf self) ⌝ }
     {
@@ -134,7 +134,7 @@ impl Queue {
         }
     }
 
-    pub fn offer(self, latency: u8) -> Option<Offer>
+    pub(crate) fn offer(self, latency: u8) -> Option<Offer>
         ensures { λ r. ⌜ r ≡ offered latency (jobsOf self) ⌝ }
     {
         match self.oldest() {
@@ -143,7 +143,7 @@ impl Queue {
         }
     }
 
-    pub fn step(self, latency: u8, accepted: bool) -> Queue
+    pub(crate) fn step(self, latency: u8, accepted: bool) -> Queue
         ensures { λ r. ⌜ jobsOf r ≡ stepped latency accepted (jobsOf self) ⌝ }
     {
         let staying = if accepted && self.is_ready(latency) {
