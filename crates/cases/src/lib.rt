@@ -220,7 +220,12 @@ mod piles_of_units {
             return None;
         }
         for steps in 0..200 {
-            if let Some(Offer { outcome: Outcome::Done { value, .. }, .. }) = unit.offer() {
+            if let Some(
+                Offer {
+                    outcome: Outcome::Done { value, .. },
+                    ..
+                },
+            ) = unit.offer() {
                 return Some((steps, value));
             }
             unit.step(true);

@@ -1,6 +1,2 @@
 pub mod Hex
 pub mod RecordLines
-pub mod Counts
-pub mod Columns
-pub mod Rows
-pub mod Summaries

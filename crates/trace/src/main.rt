@@ -1,4 +1,13 @@
 // Runs a program on the sequential machine and writes what its instructions did.
+mod columns;
+mod counts;
+mod session;
+mod summary;
+mod table;
+
+use crate::session::Session;
+use crate::summary::Summary;
+use crate::summary::SummaryDisplay;
 use console::faults::OptionFaultDisplay;
 use console::faults::ProgramFaultDisplay;
 use console::options::BadArgument;
@@ -10,9 +19,6 @@ use machine::state::Machine;
 use refusal::LoadFaultDisplay;
 use report::records::RecordLine;
 use report::records::RecordLineDisplay;
-use report::session::Session;
-use report::summary::summary_text;
-use report::table;
 use std::alloc::AllocError;
 use std::env;
 use std::error::AnyError;
@@ -102,16 +108,14 @@ fn run(rt: &LibcRuntime) -> Result<(), AnyError> {
         writeln!(page, "{}", table::HEADING)?;
     }
     run_session(rt, &options, &mut session, &mut page)?;
+    let summary = Summary {
+        session: &session,
+        cycles: session.retired,
+    };
     match options.report {
         Report::Records => {}
-        Report::Table => {
-            let summary = summary_text(rt.alloc(), &session, session.retired)?;
-            write!(page, "\n{summary}")?
-        }
-        Report::Summary => {
-            let summary = summary_text(rt.alloc(), &session, session.retired)?;
-            page.push_str(summary.as_str())?
-        }
+        Report::Table => writeln!(page, "\n{summary}")?,
+        Report::Summary => writeln!(page, "{summary}")?,
     }
     flush(rt, &mut page)?;
     Ok(())

@@ -2,9 +2,9 @@ use mathlib.Core.Path.{_≡_, _∙_}
 use Rattle.std.specs.Of.String.{string-bytes}
 use Rattle.std.specs.Vec.{made}
 use Rattle.std.proofs.shelf.Results.{made-weaker}
-use Rattle.report.specs.Rows.{rowText}
-use Rattle.report.proofs.RowTexts.{rowOf, row-is}
-use Rattle.report.proofs.table.row.Needs as need
+use Rattle.trace.specs.Rows.{rowText}
+use Rattle.trace.proofs.RowTexts.{rowOf, row-is}
+use Rattle.trace.proofs.table.row.Needs as need
 
 pub returns : need.returns
 returns c =

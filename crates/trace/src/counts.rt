@@ -1,6 +1,6 @@
 // How many instructions retired in each way.
 ghost use mathlib.Core.Path.{_≡_};
-ghost use Rattle.report.specs.Counts.{noCounts, counted};
+ghost use Rattle.trace.specs.Counts.{noCounts, counted};
 use machine::record::Retirement;
 
 #[derive(Clone, Copy)]

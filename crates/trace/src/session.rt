@@ -2,7 +2,7 @@
 ghost use mathlib.Core.Path.{_≡_};
 ghost use Rattle.machine.specs.Classes.{serves, everyClass};
 ghost use Rattle.machine.specs.Step.{step};
-ghost use Rattle.report.specs.Counts.{oneMore, counted, noCounts};
+ghost use Rattle.trace.specs.Counts.{oneMore, counted, noCounts};
 ghost use Rattle.console.specs.Schedule.{lineStands};
 use crate::counts::Counts;
 use console::schedule::LineEvent;

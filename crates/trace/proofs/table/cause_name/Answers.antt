@@ -1,7 +1,7 @@
 use mathlib.Core.Path.{sym}
 use native.Mathlib.Omega.{arith}
-use Rattle.report.proofs.RowTexts.{unknown-cause}
-use Rattle.report.proofs.table.cause_name.Needs as need
+use Rattle.trace.proofs.RowTexts.{unknown-cause}
+use Rattle.trace.proofs.table.cause_name.Needs as need
 
 pub returns-in-0 : need.returns-in-0
 returns-in-0 c = rw (c .in-0 .is)

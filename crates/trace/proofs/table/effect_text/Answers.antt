@@ -5,8 +5,8 @@ use Rattle.std.specs.Of.String.{string-bytes}
 use Rattle.std.specs.Vec.{made}
 use Rattle.std.specs.Written.{decimal}
 use Rattle.std.proofs.shelf.Results.{made-weaker}
-use Rattle.report.specs.Rows.{effectOf, effectText}
-use Rattle.report.proofs.table.effect_text.Needs as need
+use Rattle.trace.specs.Rows.{effectOf, effectText}
+use Rattle.trace.proofs.table.effect_text.Needs as need
 
 pub returns-in-Trapped : need.returns-in-Trapped
 returns-in-Trapped c =

@@ -3,7 +3,7 @@
 use Prim.Native.Nat.{ℕ, _+_, _-_, _^_, min}
 use Rattle.machine.specs.declared.record.Retirement.{Retirement}
 use Rattle.machine.specs.declared.record.Retirement.the-variants.{Plain, Trapped, Interrupted}
-use Rattle.report.specs.declared.counts.Counts.{Counts}
+use Rattle.trace.specs.declared.counts.Counts.{Counts}
 
 abbrev pub noCounts : Counts
 noCounts = record { plain = 0; trapped = 0; interrupted = 0 }

@@ -2,14 +2,14 @@
 ghost use mathlib.Core.Path.{_≡_};
 ghost use Rattle.std.specs.Of.String.{string-bytes};
 ghost use Rattle.std.specs.Vec.{made};
-ghost use Rattle.report.specs.Rows.{causeName, instructionText, effectText, rowText};
+ghost use Rattle.trace.specs.Rows.{causeName, instructionText, effectText, rowText};
 use crate::columns::left_in;
 use crate::columns::right_in;
-use crate::hex::Hex8;
-use crate::hex::Hex8Display;
 use isa::text::InstructionDisplay;
 use machine::record::Record;
 use machine::record::Retirement;
+use report::hex::Hex8;
+use report::hex::Hex8Display;
 use std::alloc::AllocError;
 use std::alloc::Global;
 use words::read;

@@ -16,8 +16,8 @@ use Rattle.words.specs.Words.{readWord}
 use Rattle.machine.specs.declared.record.Record.{Record}
 use Rattle.machine.specs.declared.record.Retirement.{Retirement}
 use Rattle.machine.specs.declared.record.Retirement.the-variants.{Plain, Trapped, Interrupted}
-use Rattle.report.specs.Columns.{leftIn, rightIn}
+use Rattle.trace.specs.Columns.{leftIn, rightIn}
 use Rattle.report.specs.Hex.{hex8}
 
 abbrev pub causeName : ℕ → List ℕ
 causeName c =

@@ -3,7 +3,7 @@ ghost use mathlib.Core.Path.{_≡_};
 ghost use mathlib.Core.List.{_++_};
 ghost use Rattle.std.specs.Of.String.{string-bytes};
 ghost use Rattle.std.specs.Vec.{made};
-ghost use Rattle.report.specs.Columns.{blanks, leftIn, rightIn};
+ghost use Rattle.trace.specs.Columns.{blanks, leftIn, rightIn};
 use std::alloc::AllocError;
 use std::alloc::Global;
 
