@@ -19,7 +19,7 @@ pub struct Session {
 }
 
 impl Session {
-    pub fn new(machine: Machine) -> Session
+    pub(crate) fn new(machine: Machine) -> Session
         ensures machine { λ r. ⌜ r .machine ≡ machine ⌝ }
         ensures counts { λ r. ⌜ r .counts ≡ noCounts ⌝ }
         ensures retired { λ r. ⌜ r .retired ≡ 0 ⌝ }
@@ -32,7 +32,7 @@ impl Session {
     }
 
     // One step, under the line as the events have set it by now.
-    pub fn step(&mut self, events: &[LineEvent]) -> Record
+    pub(crate) fn step(&mut self, events: &[LineEvent]) -> Record
         ensures answer { λ r. ⌜ r ≡ step (serves everyClass) (lineStands (now (events .entry)) (now (self .entry) .retired)) (now (self .entry) .machine) .1 ⌝ }
         ensures machine { λ _. ⌜ now (self .exit) .machine ≡ step (serves everyClass) (lineStands (now (events .entry)) (now (self .entry) .retired)) (now (self .entry) .machine) .0 ⌝ }
         ensures counts { λ r. ⌜ now (self .exit) .counts ≡ counted (r .outcome) (now (self .entry) .counts) ⌝ }

@@ -61,7 +61,7 @@ fn effect_text(heap: Global, record: Record) -> Result<String, AllocError>
     }
 }
 
-pub fn row(heap: Global, number: u64, record: Record) -> Result<String, AllocError>
+pub(crate) fn row(heap: Global, number: u64, record: Record) -> Result<String, AllocError>
     ensures { λ r. ⌜ made r (λ s. string-bytes s ≡ rowText number «record») ⌝ }
 {
     let place = right_in(heap, 7, number.to_string(heap)?)?;
