@@ -1,4 +1,4 @@
--- Worked cases about words, values and the sequential machine, as one joint statement about the definitions.
+-- Worked cases about words, values, the sequential machine and the longest wait, as one joint statement about the definitions.
 -- Assumes nothing.
 use Prim.Native.Nat.{ℕ}
 use mathlib.Core.Path.{_≡_}
@@ -29,6 +29,14 @@ use Rattle.machine.specs.Classes.{serves, everyClass}
 use Rattle.machine.specs.Records.{retirementNumber}
 use Rattle.machine.specs.States.{fresh, loadState, registerOf}
 use Rattle.machine.specs.Step.{judgedOutcome, step, steps}
+use Rattle.law.specs.Laws.{wait}
+use Rattle.pipelines.specs.declared.plain.Plain.{Plain}
+use Rattle.pipelines.specs.declared.multiplier.Multiplier.{Multiplier}
+use Rattle.pipelines.specs.Supplied.{plain, multiplier}
+use Rattle.divider.specs.declared.Divider.{Divider}
+use Rattle.divider.specs.Model.{model as divider}
+use Rattle.join.specs.declared.Join.{Join}
+use Rattle.join.specs.Joined.{joinMeans}
 
 abbrev instruction : Operation → ℕ → ℕ → ℕ → ℤ → Instruction
 instruction o d a b z = record { operation = o; rd = d; rs1 = a; rs2 = b; immediate = z }
@@ -101,3 +109,8 @@ pub record WorkedCases : Type 0 where
   pub empty-traps : retirementNumber (next false (loaded []) .outcome) ≡ 1
   pub empty-cause : next false (loaded []) .value ≡ 1
   pub empty-mepc : run (false ∷ []) [] .trap .mepc ≡ 0
+  -- the longest wait over a unit, by its longest stay
+  pub wait-of-1 : wait 1 ≡ 4
+  pub wait-of-132 : wait 132 ≡ 265
+  -- over the units that trace runs on
+  pub wait-of-the-pile : (u : Join (Join Plain Multiplier) Divider) → wait (joinMeans (joinMeans plain multiplier) divider .stay u) ≡ 133

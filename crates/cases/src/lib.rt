@@ -11,35 +11,28 @@ mod instructions {
     use isa::instruction::Instruction;
     use isa::operation::Operation;
     use isa::outcome::Outcome;
-    use isa::text::InstructionDisplay;
-    use refusal::IllegalWordDisplay;
-    use refusal::WriteFault;
-    use refusal::WriteFaultDisplay;
     use std::test::*;
-    use words::read;
     use words::write;
 
-    fn addi(immediate: i32) -> Instruction {
+    fn addi(rs2: u8, immediate: i32) -> Instruction {
         Instruction {
             operation: Operation::Addi,
             rd: 1,
             rs1: 0,
-            rs2: 0,
+            rs2,
             immediate,
         }
     }
 
-    fn branch(immediate: i32) -> Instruction {
-        Instruction {
-            operation: Operation::Beq,
-            rd: 0,
-            rs1: 1,
-            rs2: 2,
-            immediate,
+    // The word, or the number of the refusal.
+    fn written(instruction: Instruction) -> u32 {
+        match write(instruction) {
+            Ok(word) => word,
+            Err(fault) => u32::from(fault.number()),
         }
     }
 
-    fn divide(operation: Operation, a: u32, b: u32) -> Option<u32> {
+    fn divided(operation: Operation, a: u32, b: u32) -> u32 {
         let instruction = Instruction {
             operation,
             rd: 3,
@@ -48,123 +41,156 @@ mod instructions {
             immediate: 0,
         };
         match outcome(instruction, 0, a, b) {
-            Some(Outcome::Done { value, .. }) => Some(value),
-            _ => None,
+            Some(Outcome::Done { value, .. }) => value,
+            _ => 1,
         }
     }
 
     #[test]
     fn words_of_addi() -> Result<(), Fail> {
-        check_eq(write(addi(5)).unwrap_or(0), 0x0050_0093)?;
-        check_eq(write(addi(2047)).unwrap_or(0), 0x7ff0_0093)?;
-        check(matches!(write(addi(2048)), Err(WriteFault::BadImmediate)))?;
-        check(matches!(
-            write(Instruction {
-                rs2: 1,
-                ..addi(2048)
-            }),
-            Err(WriteFault::BadRegister)
-        ))
-    }
-
-    #[test]
-    fn funct3_tells_mul_from_an_illegal_word() -> Result<(), Fail> {
-        check(read(0x0220_81b3).is_ok())?;
-        check(read(0x0220_91b3).is_err())
+        check_eq(
+            [
+                written(addi(0, 5)),
+                written(addi(0, 2047)),
+                written(addi(0, 2048)),
+                written(addi(1, 2048)),
+            ],
+            [0x0050_0093, 0x7ff0_0093, 21, 20],
+        )
     }
 
     #[test]
     fn divisions_at_their_edges() -> Result<(), Fail> {
-        check_eq(divide(Operation::Div, 7, 0), Some(0xffff_ffff))?;
-        check_eq(divide(Operation::Rem, 7, 0), Some(7))?;
-        check_eq(divide(Operation::Div, 0xffff_fff9, 0), Some(0xffff_ffff))?;
-        check_eq(divide(Operation::Rem, 0xffff_fff9, 0), Some(0xffff_fff9))?;
         check_eq(
-            divide(Operation::Div, 0x8000_0000, 0xffff_ffff),
-            Some(0x8000_0000),
-        )?;
-        check_eq(divide(Operation::Rem, 0x8000_0000, 0xffff_ffff), Some(0))
-    }
-
-    #[test]
-    fn texts(rt: LibcRuntime) -> Result<(), Fail> {
-        check_eq(addi(5).to_string(rt.alloc())?.as_str(), "addi x1, x0, 5")?;
-        check_eq(branch(-8).to_string(rt.alloc())?.as_str(), "beq x1, x2, -8")?;
-        let Err(fault) = write(addi(2048)) else {
-            return Err(Fail::new("2048 was written"));
-        };
-        check_eq(fault.to_string(rt.alloc())?.as_str(), "21 bad immediate")
+            [
+                divided(Operation::Div, 7, 0),
+                divided(Operation::Rem, 7, 0),
+                divided(Operation::Div, 0xffff_fff9, 0),
+                divided(Operation::Rem, 0xffff_fff9, 0),
+                divided(Operation::Div, 0x8000_0000, 0xffff_ffff),
+                divided(Operation::Rem, 0x8000_0000, 0xffff_ffff),
+            ],
+            [0xffff_ffff, 7, 0xffff_ffff, 0xffff_fff9, 0x8000_0000, 0],
+        )
     }
 }
 
 #[cfg(test)]
 mod machine_steps {
     use machine::classes::Classes;
-    use machine::record::Retirement;
     use machine::state::Machine;
     use refusal::LoadFault;
+    use report::loads::RefusedLoad;
+    use report::loads::RefusedLoadDisplay;
     use std::test::*;
 
     // ADDI x1, x0, 5; ADDI x2, x0, 7; MUL x3, x1, x2
     const PRODUCT: [u32; 3] = [0x0050_0093, 0x0070_0113, 0x0220_81b3];
 
+    // 0 for a load that is taken.
+    fn load_refusal(words: &[u32], pc: u32, vector: u32) -> u8 {
+        match Machine::new().load(words, pc, vector) {
+            Ok(()) => 0,
+            Err(fault) => fault.number(),
+        }
+    }
+
+    // The program, loaded to start at pc.
+    fn product(pc: u32) -> Machine {
+        let mut machine = Machine::new();
+        let _ = machine.load(&PRODUCT, pc, 0);
+        machine
+    }
+
     #[test]
     fn a_program_runs_off_its_end() -> Result<(), Fail> {
-        let mut machine = Machine::new();
-        check(machine.load(&PRODUCT, 0, 0).is_ok())?;
+        let mut machine = product(0);
         for _ in 0..3 {
             let _ = machine.step(Classes::ALL, false);
         }
-        check_eq(machine.register(3).unwrap_or(0), 35)?;
         let record = machine.step(Classes::ALL, false);
-        check(matches!(record.outcome, Retirement::Trapped))?;
-        check_eq(record.value, 1)?;
-        check_eq(machine.trap_state().mepc, 12)
+        check_eq(
+            [
+                machine.register(3).unwrap_or(0),
+                u32::from(record.outcome.number()),
+                record.value,
+                machine.trap_state().mepc,
+            ],
+            [35, 1, 1, 12],
+        )
     }
 
     #[test]
     fn a_class_that_is_not_served_traps() -> Result<(), Fail> {
-        let mut machine = Machine::new();
-        check(machine.load(&PRODUCT, 8, 0).is_ok())?;
         let served = Classes {
             multiply: false,
             ..Classes::ALL
         };
-        let record = machine.step(served, false);
-        check(matches!(record.outcome, Retirement::Trapped))?;
-        check_eq(record.value, 2)
+        let record = product(8).step(served, false);
+        check_eq([u32::from(record.outcome.number()), record.value], [1, 2])
     }
 
     #[test]
     fn an_interrupt_follows_the_instruction() -> Result<(), Fail> {
-        let mut machine = Machine::new();
-        check(machine.load(&PRODUCT, 0, 0).is_ok())?;
+        let mut machine = product(0);
         let record = machine.step(Classes::ALL, true);
-        check(matches!(record.outcome, Retirement::Interrupted))?;
-        check_eq(record.next, 0)?;
-        check_eq(machine.trap_state().mepc, 4)?;
-        check_eq(machine.register(1).unwrap_or(0), 5)
+        check_eq(
+            [
+                u32::from(record.outcome.number()),
+                record.next,
+                machine.trap_state().mepc,
+                machine.register(1).unwrap_or(0),
+            ],
+            [2, 0, 4, 5],
+        )
     }
 
     #[test]
     fn load_refuses() -> Result<(), Fail> {
-        let mut machine = Machine::new();
-        check(matches!(machine.load(&[0; 1025], 2, 0), Err(LoadFault::Overlong)))?;
-        check(matches!(machine.load(&PRODUCT, 2, 0), Err(LoadFault::Skew)))?;
-        check(matches!(machine.load(&PRODUCT, 0, 6), Err(LoadFault::Skew)))?;
-        check(machine.load(&[0; 1024], 0, 0).is_ok())?;
-        check(machine.register(32).is_err())?;
-        check(machine.write_pc(2).is_err())
+        check_eq(
+            [
+                load_refusal(&[0; 1025], 2, 0),
+                load_refusal(&PRODUCT, 2, 0),
+                load_refusal(&PRODUCT, 0, 6),
+                load_refusal(&[0; 1024], 0, 0),
+            ],
+            [1, 2, 2, 0],
+        )
+    }
+
+    fn refused(fault: LoadFault, pc: u32) -> RefusedLoad {
+        RefusedLoad {
+            fault,
+            words: 1025,
+            pc,
+            vector: 6,
+        }
+    }
+
+    #[test]
+    fn a_refused_load_names_its_argument(rt: LibcRuntime) -> Result<(), Fail> {
+        let text = format!(
+            rt.alloc(),
+            "{}; {}; {}",
+            refused(LoadFault::Overlong, 2),
+            refused(LoadFault::Skew, 2),
+            refused(LoadFault::Skew, 4)
+        )?;
+        check_eq(
+            text.as_str(),
+            "1025 words: 1 overlong; --pc 2: 2 skew; --vector 6: 2 skew",
+        )
     }
 }
 
 #[cfg(test)]
 mod arguments_and_texts {
     use console::lines::WordFault;
-    use console::options::OptionFault;
-    use console::options::parse_options;
     use console::program::ProgramFault;
     use console::program::parse_program;
+    use options::arguments::BadArgument;
+    use options::arguments::OptionFault;
+    use options::arguments::parse_options;
     use std::test::*;
 
     #[test]
@@ -175,13 +201,15 @@ mod arguments_and_texts {
 
     #[test]
     fn unknown_argument(rt: LibcRuntime) -> Result<(), Fail> {
-        let mut texts = Vec::new(rt.alloc());
-        texts.push(String::from_str(rt.alloc(), "--records")?)?;
-        texts.push(String::from_str(rt.alloc(), "--record")?)?;
-        match parse_options(rt.alloc(), texts.as_slice()) {
-            Ok(_) => Err(Fail::new("it was taken")),
-            Err(bad) => check(bad.place == 2 && matches!(bad.fault, OptionFault::Unknown)),
-        }
+        let texts = [String::from_str(rt.alloc(), "--record")?];
+        let parsed = parse_options(rt.alloc(), &texts);
+        check(matches!(
+            parsed,
+            Err(BadArgument {
+                place: 1,
+                fault: OptionFault::Unknown
+            })
+        ))
     }
 }
 
@@ -191,7 +219,6 @@ mod piles_of_units {
     use divider::DividerUnit;
     use isa::outcome::Outcome;
     use join::JoinUnit;
-    use join::pile;
     use join::tall_pile;
     use pipelines::multiplier::Multiplier;
     use pipelines::multiplier::MultiplierUnit;
@@ -214,11 +241,9 @@ mod piles_of_units {
     };
 
     // After how many accepted steps the job is offered, and its value.
-    fn wait<U: Unit>(unit: &mut U, job: Job) -> Option<(u32, u32)> {
+    fn wait<U: Unit>(unit: &mut U, job: Job) -> [u32; 2] {
         unit.clear();
-        if unit.take(job).is_err() {
-            return None;
-        }
+        let _ = unit.take(job);
         for steps in 0..200 {
             if let Some(
                 Offer {
@@ -226,17 +251,11 @@ mod piles_of_units {
                     ..
                 },
             ) = unit.offer() {
-                return Some((steps, value));
+                return [steps, value];
             }
             unit.step(true);
         }
-        None
-    }
-
-    #[test]
-    fn a_pile_of_three() -> Result<(), Fail> {
-        let mut unit = pile(Plain::new(), Multiplier::new(), Divider::new());
-        check_eq(wait(&mut unit, DIVISION), Some((32, 0xffff_ffff)))
+        [200, 0]
     }
 
     #[test]
@@ -248,12 +267,14 @@ mod piles_of_units {
             Multiplier::new(),
             Plain::new(),
         );
-        check_eq(wait(&mut unit, DIVISION), Some((32, 0xffff_ffff)))?;
         let product = Job {
             word: 0x0220_81b3,
             b: 3,
             ..DIVISION
         };
-        check_eq(wait(&mut unit, product), Some((3, 0xffff_ffeb)))
+        check_eq(
+            [wait(&mut unit, DIVISION), wait(&mut unit, product)],
+            [[32, 0xffff_ffff], [3, 0xffff_ffeb]],
+        )
     }
 }

@@ -6,13 +6,14 @@ use mathlib.Core.List.{_++_}
 use Prim.Native.Nat.{ℕ}
 use lib.Chars.{codes}
 use lib.Utf8.{encode}
+use Rattle.std.specs.Text.{asciiGraphic}
 use Rattle.std.specs.Written.{decimal}
 use Rattle.std.proofs.shelf.Tests.{cond-true, cond-false}
 use Rattle.console.specs.declared.lines.WordFault.the-variants.{NotHex}
-use Rattle.console.specs.FaultLines.{visible, wordFaultLine}
+use Rattle.console.specs.FaultLines.{wordFaultLine}
 
-pub seen : (b : ℕ) → visible b ≡ true → wordFaultLine (NotHex b) ≡ codes "`" ++ (encode b ++ codes "` is no hex digit")
+pub seen : (b : ℕ) → asciiGraphic b ≡ true → wordFaultLine (NotHex b) ≡ codes "`" ++ (encode b ++ codes "` is no hex digit")
 seen b e = cond-true _ _ _ e
 
-pub unseen : (b : ℕ) → visible b ≡ false → wordFaultLine (NotHex b) ≡ codes "byte " ++ (decimal b ++ codes " is no hex digit")
+pub unseen : (b : ℕ) → asciiGraphic b ≡ false → wordFaultLine (NotHex b) ≡ codes "byte " ++ (decimal b ++ codes " is no hex digit")
 unseen b e = cond-false _ _ _ e

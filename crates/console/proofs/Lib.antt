@@ -1,6 +1,3 @@
 mod Texts
-mod Stands
 mod TextLines
-mod Names
-mod Arguments
 mod FaultTexts

@@ -1,9 +1,7 @@
 -- A number argument: decimal digits, or hex digits after `0x`.
 -- Assumes nothing.
-use Prim.Native.Nat.{ℕ, _^_}
-use mathlib.Core.Bool.{cond}
+use Prim.Native.Nat.{ℕ}
 use mathlib.Core.List.{List, [], _∷_}
-use lib.Dec.{ltb}
 use Rattle.std.specs.declared.option.Option.{Option}
 use Rattle.std.specs.declared.option.Option.the-variants.{Some, None}
 use Rattle.std.specs.declared.result.Result.{Result}
@@ -31,11 +29,3 @@ markedNumber bs None = digitsNumber 10 bs
 
 abbrev pub numberOf : List ℕ → Result ℕ NumberFault
 numberOf bs = markedNumber bs (afterMark bs)
-
--- a number that 32 bits hold
-abbrev pub narrowed : Result ℕ NumberFault → Result ℕ NumberFault
-narrowed (Ok n) = cond (ltb n (2 ^ 32)) (Ok n) (Err TooLarge)
-narrowed (Err e) = Err e
-
-abbrev pub addressOf : List ℕ → Result ℕ NumberFault
-addressOf bs = narrowed (numberOf bs)

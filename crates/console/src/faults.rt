@@ -1,18 +1,10 @@
 // Faults in a line for people.
-ghost use mathlib.Core.Path.{_≡_};
 ghost use Rattle.std.specs.declared.option.Option.the-variants.{Some};
-ghost use Rattle.console.specs.FaultLines.{visible, wordFaultLine, programFaultLine, numberFaultLine, optionFaultLine};
+ghost use Rattle.console.specs.FaultLines.{wordFaultLine, programFaultLine, numberFaultLine};
 use crate::lines::WordFault;
 use crate::numbers::NumberFault;
-use crate::options::OptionFault;
 use crate::program::ProgramFault;
 use std::fmt;
-
-fn is_visible(byte: u8) -> bool
-    ensures { λ r. ⌜ r ≡ visible byte ⌝ }
-{
-    byte > 32 && byte < 127
-}
 
 pub impl fmt::Display for WordFault as WordFaultDisplay {
     ghost shown = { λ e. Some (wordFaultLine e) };
@@ -20,7 +12,7 @@ pub impl fmt::Display for WordFault as WordFaultDisplay {
     fn fmt<W: fmt::Write>(&self, f: &mut fmt::Formatter<W>) -> fmt::Result {
         match *self {
             WordFault::NotHex(byte) => {
-                if is_visible(byte) {
+                if byte.is_ascii_graphic() {
                     write!(f, "`{}` is no hex digit", char::from(byte))
                 } else {
                     write!(f, "byte {byte} is no hex digit")
@@ -50,19 +42,6 @@ pub impl fmt::Display for NumberFault as NumberFaultDisplay {
         match self {
             NumberFault::NotANumber => f.write_str("not a number"),
             NumberFault::TooLarge => f.write_str("too large a number"),
-        }
-    }
-}
-
-pub impl fmt::Display for OptionFault as OptionFaultDisplay {
-    ghost shown = { λ e. Some (optionFaultLine e) };
-
-    fn fmt<W: fmt::Write>(&self, f: &mut fmt::Formatter<W>) -> fmt::Result {
-        match *self {
-            OptionFault::Unknown => f.write_str("unknown argument"),
-            OptionFault::NoValue => f.write_str("a number is missing after it"),
-            OptionFault::BadNumber(fault) => write!(f, "{fault}"),
-            OptionFault::NoMemory => f.write_str("no memory for the options"),
         }
     }
 }

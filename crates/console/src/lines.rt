@@ -1,6 +1,6 @@
 // A line of program text: a word in hex digits, or nothing, with a comment from `#` on.
 ghost use mathlib.Core.Path.{_≡_};
-ghost use Rattle.console.specs.Lines.{blank, before, trimmedFront, trimmedBack, hexWord, lineWord};
+ghost use Rattle.console.specs.Lines.{blank, before, trimmedFront, trimmedBack, lineText, hexWord, lineWord};
 use crate::digits;
 
 #[derive(Clone, Copy)]
@@ -69,11 +69,18 @@ fn parse_hex_word(text: &[u8]) -> Result<u32, WordFault>
     }
 }
 
+// What a line says: without its comment, and the blanks around it.
+pub fn line_text(line: &[u8]) -> &[u8]
+    ensures { λ r. ⌜ now r ≡ lineText (now (line .entry)) ⌝ }
+{
+    trim_back(trim_front(text_before(b'#', line)))
+}
+
 // None for a line with no word on it.
-pub(crate) fn parse_line(line: &[u8]) -> Result<Option<u32>, WordFault>
+pub fn parse_line(line: &[u8]) -> Result<Option<u32>, WordFault>
     ensures { λ r. ⌜ r ≡ lineWord (now (line .entry)) ⌝ }
 {
-    let text = trim_back(trim_front(text_before(b'#', line)));
+    let text = line_text(line);
     if text.is_empty() {
         return Ok(None);
     }

@@ -1,6 +1,6 @@
 // A number argument: decimal digits, or hex digits after `0x`.
 ghost use mathlib.Core.Path.{_≡_};
-ghost use Rattle.console.specs.Numbers.{digitsNumber, numberOf, addressOf};
+ghost use Rattle.console.specs.Numbers.{digitsNumber, numberOf};
 use crate::digits;
 
 #[derive(Clone, Copy)]
@@ -21,22 +21,11 @@ fn parse_digits(radix: u8, text: &[u8]) -> Result<u64, NumberFault>
     }
 }
 
-pub(crate) fn parse_number(text: &[u8]) -> Result<u64, NumberFault>
+pub fn parse_number(text: &[u8]) -> Result<u64, NumberFault>
     ensures { λ r. ⌜ r ≡ numberOf (now (text .entry)) ⌝ }
 {
     match digits::after_hex_mark(text) {
         Some(hex) => parse_digits(16, hex),
         None => parse_digits(10, text),
-    }
-}
-
-pub fn parse_address(text: &[u8]) -> Result<u32, NumberFault>
-    ensures { λ r. ⌜ r ≡ addressOf (now (text .entry)) ⌝ }
-{
-    let number = parse_number(text)?;
-    if number <= 0xffff_ffff {
-        Ok(number as u32)
-    } else {
-        Err(NumberFault::TooLarge)
     }
 }

@@ -153,7 +153,7 @@ outcome-lands rd (Some c) Misaligned h = tt
 judged-lands : (d : Decoded) (m : Machine) → m .pc % 4 ≡ 0 → Lands (judged d m)
 judged-lands (AsksTrap c) m h = tt
 judged-lands AsksReturn m h = tt
-judged-lands (Work i) m h =
+judged-lands (Work c i) m h =
     let a = registerOf m (i .rs1) in
     let b = registerOf m (i .rs2) in
     outcome-lands (i .rd) (classOf (i .operation)) (workedOut i (m .pc) a b) (worked-lands i (m .pc) a b h)

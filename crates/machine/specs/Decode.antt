@@ -22,7 +22,7 @@ abbrev pub kindDecoded : (Class → Bool) → Instruction → Kind → Decoded
 kindDecoded served i Call = Trap EnvironmentCall
 kindDecoded served i Break = Trap Breakpoint
 kindDecoded served i TrapReturn = Return
-kindDecoded served i (Worked c) = cond (served c) (Work i) (Trap IllegalInstruction)
+kindDecoded served i (Worked c) = cond (served c) (Work c i) (Trap IllegalInstruction)
 
 abbrev pub readDecoded : (Class → Bool) → Result Instruction IllegalWord → Decoded
 readDecoded served (Ok i) = kindDecoded served i (kindOf (i .operation))

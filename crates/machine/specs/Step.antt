@@ -37,7 +37,7 @@ judgedOutcome rd None = Trap IllegalInstruction
 abbrev pub judged : Decoded → Machine → Judgement
 judged (AsksTrap c) m = Trap c
 judged AsksReturn m = Return
-judged (Work i) m = judgedOutcome (i .rd) (outcomeOf i (m .pc) (registerOf m (i .rs1)) (registerOf m (i .rs2)))
+judged (Work c i) m = judgedOutcome (i .rd) (outcomeOf i (m .pc) (registerOf m (i .rs1)) (registerOf m (i .rs2)))
 
 -- the word of a record: 0 where pc is outside the program
 abbrev pub wordOr0 : Option ℕ → ℕ

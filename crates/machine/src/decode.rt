@@ -5,6 +5,7 @@ ghost use Rattle.machine.specs.Decode.{decoded, kindDecoded};
 use crate::cause::Cause;
 use crate::classes::Classes;
 use isa::instruction::Instruction;
+use isa::operation::Class;
 use isa::operation::Kind;
 use words::read;
 
@@ -14,7 +15,7 @@ pub enum Decoded {
     // MRET
     Return,
     // an instruction that a served class works out
-    Work(Instruction),
+    Work(Class, Instruction),
 }
 
 fn decode_kind(served: Classes, instruction: Instruction, kind: Kind) -> Decoded
@@ -26,7 +27,7 @@ fn decode_kind(served: Classes, instruction: Instruction, kind: Kind) -> Decoded
         Kind::TrapReturn => Decoded::Return,
         Kind::Worked(class) => {
             if served.has(class) {
-                Decoded::Work(instruction)
+                Decoded::Work(class, instruction)
             } else {
                 Decoded::Trap(Cause::IllegalInstruction)
             }
@@ -34,7 +35,7 @@ fn decode_kind(served: Classes, instruction: Instruction, kind: Kind) -> Decoded
     }
 }
 
-pub(crate) fn decode(served: Classes, word: Option<u32>) -> Decoded
+pub fn decode(served: Classes, word: Option<u32>) -> Decoded
     ensures { λ r. ⌜ r ≡ decoded (serves served) word ⌝ }
 {
     let Some(word) = word else {

@@ -3,7 +3,6 @@ ghost use mathlib.Core.Path.{_≡_};
 ghost use Rattle.machine.specs.Causes.{externalInterrupt};
 ghost use Rattle.machine.specs.Classes.{serves};
 ghost use Rattle.machine.specs.States.{withRegister};
-ghost use lib.ListN.{getD};
 ghost use Rattle.machine.specs.Laws.{StepLaw};
 ghost use Rattle.machine.specs.Step.{judgedOutcome, judged, judgementOf, entered, returned, written, settled, applied, fetched, wordOr0, step};
 use crate::cause::Cause;
@@ -21,7 +20,7 @@ use isa::outcome::Outcome;
 const EXTERNAL_INTERRUPT: u32 = 0x8000_000b;
 
 // What an instruction's outcome means for its destination register.
-fn judge_outcome(rd: u8, outcome: Option<Outcome>) -> Judgement
+pub fn judge_outcome(rd: u8, outcome: Option<Outcome>) -> Judgement
     ensures { λ r. ⌜ r ≡ judgedOutcome rd outcome ⌝ }
 {
     match outcome {
@@ -31,18 +30,7 @@ fn judge_outcome(rd: u8, outcome: Option<Outcome>) -> Judgement
     }
 }
 
-// No word has a register above 31: there is nothing to read or write there.
-fn operand(registers: &[u32], register: u8) -> u32
-    ensures { λ r. ⌜ r ≡ getD (now (registers .entry)) register 0 ⌝ }
-{
-    let index = usize::from(register);
-    if index < registers.len() {
-        registers[index]
-    } else {
-        0
-    }
-}
-
+// No word has a register above 31: there is nothing to write there.
 fn write_destination(registers: &mut [u32], rd: u8, value: u32)
     ensures { λ _. ⌜ now (registers .exit) ≡ withRegister rd value (now (registers .entry)) ⌝ }
 {
@@ -62,9 +50,9 @@ impl Machine {
         match decoded {
             Decoded::Trap(cause) => Judgement::Trap(cause),
             Decoded::Return => Judgement::Return,
-            Decoded::Work(instruction) => {
-                let a = operand(&self.registers, instruction.rs1);
-                let b = operand(&self.registers, instruction.rs2);
+            Decoded::Work(_, instruction) => {
+                let a = self.operand(instruction.rs1);
+                let b = self.operand(instruction.rs2);
                 judge_outcome(instruction.rd, outcome(instruction, self.pc, a, b))
             }
         }
@@ -167,7 +155,7 @@ impl Machine {
         ensures answer { λ r. ⌜ r ≡ step (serves served) line (now (self .entry)) .1 ⌝ }
         ensures law { λ r. ⌜ StepLaw (serves served) (now (self .entry)) r (now (self .exit)) ⌝ }
     {
-        let word = self.program.word_at(self.pc);
+        let word = self.word_at(self.pc);
         self.carry_out(served, line, word)
     }
 }

@@ -7,6 +7,11 @@ use Rattle.refusal.specs.declared.LoadFault.{LoadFault}
 use Rattle.refusal.specs.declared.LoadFault.the-variants.{Overlong, Skew}
 use Rattle.refusal.specs.declared.SkewedAddress.{SkewedAddress}
 use Rattle.refusal.specs.declared.NoRegister.{NoRegister}
+use Rattle.refusal.specs.declared.IssueFault.{IssueFault}
+use Rattle.refusal.specs.declared.IssueFault.the-variants.{BufferFull, NoStation}
+use Rattle.refusal.specs.declared.NoneGoes.{NoneGoes}
+use Rattle.refusal.specs.declared.RetireFault.{RetireFault}
+use Rattle.refusal.specs.declared.RetireFault.the-variants.{Empty, HeadWaits}
 use Rattle.refusal.specs.declared.NoRoom.{NoRoom}
 use Rattle.refusal.specs.declared.WriteFault.{WriteFault}
 use Rattle.refusal.specs.declared.WriteFault.the-variants.{BadRegister, BadImmediate}
@@ -21,6 +26,17 @@ skewLine e = codes "2 skew"
 
 abbrev pub noRegisterLine : NoRegister → List ℕ
 noRegisterLine e = codes "3 no register"
+
+abbrev pub issueFaultLine : IssueFault → List ℕ
+issueFaultLine BufferFull = codes "10 buffer full"
+issueFaultLine NoStation = codes "11 no station"
+
+abbrev pub noneGoesLine : NoneGoes → List ℕ
+noneGoesLine e = codes "12 none goes"
+
+abbrev pub retireFaultLine : RetireFault → List ℕ
+retireFaultLine Empty = codes "13 empty"
+retireFaultLine HeadWaits = codes "14 head waits"
 
 abbrev pub noRoomLine : NoRoom → List ℕ
 noRoomLine e = codes "15 no room"

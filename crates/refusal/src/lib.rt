@@ -1,8 +1,8 @@
 // Every refusal, with its number and the line that names it.
 ghost use mathlib.Core.Path.{_≡_};
 ghost use Rattle.std.specs.declared.option.Option.the-variants.{Some};
-ghost use Rattle.refusal.specs.Numbers.{loadFaultNumber, skewNumber, noRegisterNumber, noRoomNumber, writeFaultNumber, illegalWordNumber};
-ghost use Rattle.refusal.specs.Lines.{loadFaultLine, skewLine, noRegisterLine, noRoomLine, writeFaultLine, illegalWordLine};
+ghost use Rattle.refusal.specs.Numbers.{loadFaultNumber, skewNumber, noRegisterNumber, issueFaultNumber, noneGoesNumber, retireFaultNumber, noRoomNumber, writeFaultNumber, illegalWordNumber};
+ghost use Rattle.refusal.specs.Lines.{loadFaultLine, skewLine, noRegisterLine, issueFaultLine, noneGoesLine, retireFaultLine, noRoomLine, writeFaultLine, illegalWordLine};
 use std::fmt;
 
 // Load was given a program that it does not take.
@@ -77,6 +77,88 @@ pub impl fmt::Display for NoRegister as NoRegisterDisplay {
 
     fn fmt<W: fmt::Write>(&self, f: &mut fmt::Formatter<W>) -> fmt::Result {
         f.write_str("3 no register")
+    }
+}
+
+// Issue has no place for another instruction.
+#[derive(Clone, Copy)]
+pub enum IssueFault {
+    // 16 entries are in flight
+    BufferFull,
+    // the word needs a reservation station, and none is free
+    NoStation,
+}
+
+impl IssueFault {
+    pub fn number(self) -> u8
+        ensures { λ r. ⌜ r ≡ issueFaultNumber self ⌝ }
+    {
+        match self {
+            IssueFault::BufferFull => 10,
+            IssueFault::NoStation => 11,
+        }
+    }
+}
+
+pub impl fmt::Display for IssueFault as IssueFaultDisplay {
+    ghost shown = { λ e. Some (issueFaultLine e) };
+
+    fn fmt<W: fmt::Write>(&self, f: &mut fmt::Formatter<W>) -> fmt::Result {
+        match self {
+            IssueFault::BufferFull => f.write_str("10 buffer full"),
+            IssueFault::NoStation => f.write_str("11 no station"),
+        }
+    }
+}
+
+// Dispatch has nothing that may go to a unit.
+#[derive(Clone, Copy)]
+pub struct NoneGoes {}
+
+impl NoneGoes {
+    pub fn number(self) -> u8
+        ensures { λ r. ⌜ r ≡ noneGoesNumber self ⌝ }
+    {
+        12
+    }
+}
+
+pub impl fmt::Display for NoneGoes as NoneGoesDisplay {
+    ghost shown = { λ e. Some (noneGoesLine e) };
+
+    fn fmt<W: fmt::Write>(&self, f: &mut fmt::Formatter<W>) -> fmt::Result {
+        f.write_str("12 none goes")
+    }
+}
+
+// Retire has no instruction that is done at the head of the buffer.
+#[derive(Clone, Copy)]
+pub enum RetireFault {
+    // nothing is in flight
+    Empty,
+    // the oldest instruction is not done
+    HeadWaits,
+}
+
+impl RetireFault {
+    pub fn number(self) -> u8
+        ensures { λ r. ⌜ r ≡ retireFaultNumber self ⌝ }
+    {
+        match self {
+            RetireFault::Empty => 13,
+            RetireFault::HeadWaits => 14,
+        }
+    }
+}
+
+pub impl fmt::Display for RetireFault as RetireFaultDisplay {
+    ghost shown = { λ e. Some (retireFaultLine e) };
+
+    fn fmt<W: fmt::Write>(&self, f: &mut fmt::Formatter<W>) -> fmt::Result {
+        match self {
+            RetireFault::Empty => f.write_str("13 empty"),
+            RetireFault::HeadWaits => f.write_str("14 head waits"),
+        }
     }
 }
 

@@ -1,5 +1,5 @@
 // What a run came to, for people.
-use crate::session::Session;
+use crate::counts::Counts;
 use machine::state::Machine;
 use report::hex::Hex8;
 use report::hex::Hex8Display;
@@ -7,24 +7,36 @@ use std::fmt;
 
 #[derive(Clone, Copy)]
 pub struct Summary<'a> {
-    pub session: &'a Session,
+    pub machine: &'a Machine,
+    pub counts: Counts,
+    pub retired: u64,
     pub cycles: u64,
 }
 
-fn write_rate<W: fmt::Write>(f: &mut fmt::Formatter<W>, cycles: u64, retired: u64) -> fmt::Result {
-    if retired == 0 {
-        return f.write_str("-");
+const COUNTS: [&str; 5] = ["retired", "  plain", "  trapped", "  interrupted", "cycles"];
+
+const WORDS: [&str; 6] = ["pc", "mepc", "mcause", "mie", "mpie", "vector"];
+
+fn write_counts<W: fmt::Write>(f: &mut fmt::Formatter<W>, counts: [u64; 5]) -> fmt::Result {
+    for i in 0..5 {
+        writeln!(f, "{:<20}{}", COUNTS[i], counts[i])?;
     }
-    let whole = cycles / retired;
-    let hundredths = (cycles % retired).saturating_mul(100) / retired;
-    write!(f, "{whole}.{hundredths:02}")
+    Ok(())
 }
 
+fn write_words<W: fmt::Write>(f: &mut fmt::Formatter<W>, words: [u32; 6]) -> fmt::Result {
+    for i in 0..6 {
+        writeln!(f, "{:<20}{}", WORDS[i], Hex8(words[i]))?;
+    }
+    Ok(())
+}
+
+// Those that are not 0.
 fn write_registers<W: fmt::Write>(f: &mut fmt::Formatter<W>, machine: &Machine) -> fmt::Result {
     for number in 1u8..32 {
         let value = machine.register(number).unwrap_or(0);
         if value != 0 {
-            write!(f, "\nx{number:<18} {}", Hex8(value))?;
+            writeln!(f, "x{number:<18} {}", Hex8(value))?;
         }
     }
     Ok(())
@@ -32,27 +44,38 @@ fn write_registers<W: fmt::Write>(f: &mut fmt::Formatter<W>, machine: &Machine) 
 
 pub impl<'a> fmt::Display for Summary<'a> as SummaryDisplay {
     fn fmt<W: fmt::Write>(&self, f: &mut fmt::Formatter<W>) -> fmt::Result {
-        let session = self.session;
-        let cycles = self.cycles;
-        let counts = session.counts;
-        let trap = session.machine.trap_state();
-        writeln!(f, "retired             {}", session.retired)?;
-        writeln!(f, "  plain             {}", counts.plain)?;
-        writeln!(f, "  trapped           {}", counts.trapped)?;
-        writeln!(f, "  interrupted       {}", counts.interrupted)?;
-        writeln!(f, "cycles              {cycles}")?;
-        f.write_str("cycles/instruction  ")?;
-        write_rate(f, cycles, session.retired)?;
-        writeln!(f, "\npc                  {}", Hex8(session.machine.pc()))?;
-        writeln!(f, "mepc                {}", Hex8(trap.mepc))?;
-        writeln!(f, "mcause              {}", Hex8(trap.mcause))?;
-        writeln!(
+        let Summary {
+            machine,
+            counts,
+            retired,
+            cycles,
+        } = *self;
+        let trap = machine.trap_state();
+        write_counts(
             f,
-            "mie, mpie           {}, {}",
-            u8::from(trap.mie),
-            u8::from(trap.mpie)
+            [
+                retired,
+                counts.plain,
+                counts.trapped,
+                counts.interrupted,
+                cycles,
+            ],
         )?;
-        write!(f, "vector              {}", Hex8(trap.vector))?;
-        write_registers(f, &session.machine)
+        let divisor = retired.max(1);
+        let whole = cycles / divisor;
+        let hundredths = (cycles % divisor).saturating_mul(100) / divisor;
+        writeln!(f, "cycles/instruction  {whole}.{hundredths:02}")?;
+        write_words(
+            f,
+            [
+                machine.pc(),
+                trap.mepc,
+                trap.mcause,
+                u32::from(trap.mie),
+                u32::from(trap.mpie),
+                trap.vector,
+            ],
+        )?;
+        write_registers(f, machine)
     }
 }

@@ -28,4 +28,7 @@ returns c =
       empty-traps = refl;
       empty-cause = refl;
       empty-mepc = refl;
+      wait-of-1 = refl;
+      wait-of-132 = refl;
+      wait-of-the-pile = λ u. refl;
     }

@@ -24,16 +24,16 @@ returns-in-NoDigits g c =
     (λ (e : WordFault). Prints (g .W·Write .took) (c .args .f .now) (said .result) (wordFaultLine e) (said .last .self))
     (sym (c .in-NoDigits .is)) (said .ensures .prints)
 
-pub returns-then-is-visible : need.returns-then-is-visible
-returns-then-is-visible g c plain ok =
+pub returns-then-is-ascii-graphic : need.returns-then-is-ascii-graphic
+returns-then-is-ascii-graphic g c plain ok =
     put-is (g .W·Write .took) _ _ _ _
     (ap (λ x. codes "`" ++ (encode x ++ codes "` is no hex digit")) (c .from .ensures)
-    ∙ sym (seen (c .in-NotHex .byte) (sym (c .if-is-visible .ensures tt)))
+    ∙ sym (seen (c .in-NotHex .byte) (sym (c .if-is-ascii-graphic .ensures tt .value)))
     ∙ ap wordFaultLine (sym (c .in-NotHex .is)))
     (c .write .ensures .shows plain ok)
 
-pub returns-else-is-visible : need.returns-else-is-visible
-returns-else-is-visible g c plain ok =
+pub returns-else-is-ascii-graphic : need.returns-else-is-ascii-graphic
+returns-else-is-ascii-graphic g c plain ok =
     put-is (g .W·Write .took) _ _ _ _
-    (sym (unseen (c .in-NotHex .byte) (sym (c .if-is-visible .ensures tt))) ∙ ap wordFaultLine (sym (c .in-NotHex .is)))
-    (c .write-else-is-visible .ensures .shows plain ok)
+    (sym (unseen (c .in-NotHex .byte) (sym (c .if-is-ascii-graphic .ensures tt .value))) ∙ ap wordFaultLine (sym (c .in-NotHex .is)))
+    (c .write-else-is-ascii-graphic .ensures .shows plain ok)

@@ -1,0 +1,3 @@
+mod Stands
+mod Names
+mod TextByText

@@ -1,0 +1,4 @@
+pub mod Addresses
+pub mod Schedule
+pub mod Settings
+pub mod FaultLines

@@ -1,0 +1,3 @@
+mod Choosing
+mod Firsts
+mod FreePlaces

@@ -1,0 +1,6 @@
+use borrow.Author.Needs.{needs}
+use Rattle.std.proofs.shelf.Lists.{set-past}
+use Rattle.tables.proofs.slots.write.Needs as need
+
+pub returns-else-index-table : need.returns-else-index-table
+returns-else-index-table g c = search (needs, set-past)
