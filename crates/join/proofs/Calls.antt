@@ -12,7 +12,7 @@ use Rattle.units.specs.Calls.{Keeps, TakeCall, StepCall}
 use Rattle.join.specs.declared.Join.{Join}
 use Rattle.join.specs.Joined.{contested, offered, turned, granted, side_held, first_of, join_means, Apart, Sound}
 use Rattle.join.specs.Sides.{RightTakes, SidesTake, SidesStep, both_offer}
-use Rattle.join.proofs.Tags.{side_moves, first_moved, apart-moved, apart_left, apart_right, fell_same, both_stay, holds_first, holds_left, holds_right, first_empty, apart-fell, apart_none, none_apart}
+use Rattle.join.specs.Tags.{side_moves, first_moved, apart-moved, apart_left, apart_right, fell_same, both_stay, holds_first, holds_left, holds_right, first_empty, apart-fell, apart_none, none_apart}
 
 same_joined : {A B : Type 0} (l : UnitModel A) (r : UnitModel B) (u u' : Join A B)
     → Same l u.left u'.left → Same r u.right u'.right → Same (join_means l r) u u'

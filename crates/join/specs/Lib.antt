@@ -1,2 +1,4 @@
 pub mod Joined
 pub mod Sides
+pub mod Tags
+pub mod Keeps

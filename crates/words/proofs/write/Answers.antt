@@ -13,9 +13,9 @@ use Rattle.words.proofs.write.Goals as goal
 pub join-requires : goal.join-requires
 join-requires c =
     let i = c.args.instruction in
-    let h = c.row-of-row.ensures in
+    let h = c.row_of-row.ensures in
     let r : registers_fit (row_of i.operation).format i ≡ true =
-    ap (λ (x : Row). registers_fit x.format i) (sym h) ∙ sym c.registers-fit.ensures ∙ c.if-not-registers-fit.false in
+    ap (λ (x : Row). registers_fit x.format i) (sym h) ∙ sym c.registers_fit.ensures ∙ c.if-not-registers_fit.false in
     let e : c.lay.result ≡ lay_of (row_of i.operation) i = c.lay.ensures ∙ ap (λ (x : Row). lay_of x i) h in
     subst Whole (sym e) (lay_whole i.operation i (of_z w32 i.immediate) r)
 
@@ -23,13 +23,13 @@ pub returns : goal.returns
 returns c =
     let i = c.args.instruction in
     let k = row_of i.operation in
-    let h = c.row-of-row.ensures in
+    let h = c.row_of-row.ensures in
     let t : SFits w32 i.immediate = search rules in
     let r : registers_fit k.format i ≡ true =
-    ap (λ (x : Row). registers_fit x.format i) (sym h) ∙ sym c.registers-fit.ensures ∙ c.if-not-registers-fit.false in
-    let m-fits = simp to_z-of_z at c.immediate-fits.ensures in
+    ap (λ (x : Row). registers_fit x.format i) (sym h) ∙ sym c.registers_fit.ensures ∙ c.if-not-registers_fit.false in
+    let m-fits = simp to_z-of_z at c.immediate_fits.ensures in
     let m : immediate_fits k.format i.immediate ≡ true =
-    ap (λ (x : Row). immediate_fits x.format i.immediate) (sym h) ∙ sym m-fits ∙ c.if-not-immediate-fits.false in
+    ap (λ (x : Row). immediate_fits x.format i.immediate) (sym h) ∙ sym m-fits ∙ c.if-not-immediate_fits.false in
     let e : c.join.result ≡ joined (lay_of k i) = c.join.ensures ∙ ap joined (c.lay.ensures ∙ ap (λ (x : Row). lay_of x i) h) in
     let value : Ok c.join.result ≡ write_word i = simp (r, m, e) in
     record {

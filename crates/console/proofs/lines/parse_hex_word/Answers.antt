@@ -7,7 +7,7 @@ use Rattle.console.proofs.lines.parse_hex_word.Goals as goal
 -- eight hex digits fit 32 bits, so neither way is taken
 pub returns-in-Err : goal.returns-in-Err
 returns-in-Err c =
-    let none : first_stranger 16 c.args.text.now ≡ None = sym c.in-default.ensures in
+    let none : first_stranger 16 c.args.text.now ≡ None = sym c.in_default.ensures in
     let small = word_fits c.args.text.now none c.if-text-gt8.false in
     let same = word_value c.args.text.now none c.if-text-gt8.false in
     let is : Some c.in-Some-value.word ≡ Some (digits_value 16 c.args.text.now) = c.in-Some-value.ensures ∙ same in
@@ -16,5 +16,5 @@ returns-in-Err c =
 
 pub returns-in-None : goal.returns-in-None
 returns-in-None c =
-    let none : first_stranger 16 c.args.text.now ≡ None = sym c.in-default.ensures in
+    let none : first_stranger 16 c.args.text.now ≡ None = sym c.in_default.ensures in
     absurd (word_is_there c.args.text.now none c.if-text-gt8.false c.in-None.ensures)

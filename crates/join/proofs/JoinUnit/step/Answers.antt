@@ -10,5 +10,5 @@ returns g c =
     step_joined g.A.Unit.means g.B.Unit.means g.A.Unit.sound g.B.Unit.sound
     (record { stays = a.stays; dues = a.dues; tags = a.tags; offers = a.offers; rooms = a.rooms; empty_rooms = a.empty_rooms })
     (record { stays = b.stays; dues = b.dues; tags = b.tags; offers = b.offers; rooms = b.rooms; empty_rooms = b.empty_rooms })
-    c.args.self.now c.args.accepted c.step-in-turn.new.self c.step-in-turn.ensures in
-    record { same = call.same; stepped = call.stepped; sides = c.step-in-turn.ensures }
+    c.args.self.now c.args.accepted c.step_in_turn.new.self c.step_in_turn.ensures in
+    record { same = call.same; stepped = call.stepped; sides = c.step_in_turn.ensures }

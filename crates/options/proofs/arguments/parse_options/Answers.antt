@@ -6,12 +6,12 @@ use Rattle.options.proofs.arguments.parse_options.Goals as goal
 pub returns-in-Err : goal.returns-in-Err
 returns-in-Err c =
     ⊎_elim inl
-    (λ e. inr (text_refused string_bytes c.args.texts.now c.loop-i.i (settings_of c.loop-i.options) c.loop-i.waiting c.loop-i.invariant c.index-texts-i.result c.as-str.result.now c.loop-i-test.true c.index-texts-i.is c.as-str.ensures.value c.in-Err.fault e))
+    (λ e. inr (text_refused string_bytes c.args.texts.now c.loop-i.i (settings_of c.loop-i.options) c.loop-i.waiting c.loop-i.invariant c.index-texts-i.result c.as_str.result.now c.loop-i-test.true c.index-texts-i.is c.as_str.ensures.value c.in-Err.fault e))
     c.in-Err.ensures
 
 pub loop-i-preserved : goal.loop-i-preserved
 loop-i-preserved c =
-    text_taken string_bytes c.args.texts.now c.loop-i.i (settings_of c.loop-i.options) c.loop-i.waiting c.loop-i.invariant c.index-texts-i.result c.as-str.result.now c.loop-i-test.true c.index-texts-i.is c.as-str.ensures.value (settings_of c.take.new.self) c.in-Ok.next c.in-Ok.ensures
+    text_taken string_bytes c.args.texts.now c.loop-i.i (settings_of c.loop-i.options) c.loop-i.waiting c.loop-i.invariant c.index-texts-i.result c.as_str.result.now c.loop-i-test.true c.index-texts-i.is c.as_str.ensures.value (settings_of c.take.new.self) c.in-Ok.next c.in-Ok.ensures
 
 pub returns-in-None : goal.returns-in-None
 returns-in-None c =

@@ -4,8 +4,8 @@ use Rattle.units.specs.Jobs.{word_class}
 use Rattle.single.specs.Laws.{takes}
 use Rattle.single.proofs.SingleUnit.TheImpl.Goals as goal
 
-pub take_tells : goal.take-tells
-take_tells c =
+pub take-tells : goal.take-tells
+take-tells c =
     let u = c.args.self.now in
     let v = c.new.self.now in
     let j = c.args.job in

@@ -3,14 +3,14 @@ use Rattle.tables.specs.Waiting.{any_free}
 use Rattle.tables.proofs.FreePlaces.{free_here, free_past}
 use Rattle.tables.proofs.stations.any_free.Goals as goal
 
-pub returns-then-is-none : goal.returns-then-is-none
-returns-then-is-none c =
-    let e = free_here c.loop-place.place-index c.args.places.now c.loop-place-test.true c.if-is-none.ensures in
+pub returns-then-is_none : goal.returns-then-is_none
+returns-then-is_none c =
+    let e = free_here c.loop-place.place-index c.args.places.now c.loop-place-test.true c.if-is_none.ensures in
     cc
 
 pub loop-place-preserved : goal.loop-place-preserved
 loop-place-preserved c =
-    let e = free_past c.loop-place.place-index c.args.places.now c.loop-place-test.true c.if-is-none.ensures in
+    let e = free_past c.loop-place.place-index c.args.places.now c.loop-place-test.true c.if-is_none.ensures in
     cc
 
 pub returns : goal.returns

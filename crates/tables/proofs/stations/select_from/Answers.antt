@@ -8,10 +8,10 @@ use Rattle.tables.proofs.stations.select_from.Goals as goal
 pub loop-i-init : goal.loop-i-init
 loop-i-init c = chosen_of_none (serves c.args.room) c.args.head c.args.places.now
 
-pub loop-i-preserved-in-default : goal.loop-i-preserved-in-default
-loop-i-preserved-in-default c =
+pub loop-i-preserved-in_default : goal.loop-i-preserved-in_default
+loop-i-preserved-in_default c =
     chosen_past_free (serves c.args.room) c.args.head c.loop-i.i c.args.places.now c.loop-i-test.true c.loop-i.auto.i
-    c.loop-i.oldest c.in-default.is c.loop-i.invariant
+    c.loop-i.oldest c.in_default.is c.loop-i.invariant
 
 pub loop-i-preserved-then-has : goal.loop-i-preserved-then-has
 loop-i-preserved-then-has c =

@@ -7,14 +7,14 @@ use Rattle.console.proofs.faults.NumberFaultDisplay.fmt.Goals as goal
 
 pub returns-in-NotANumber-clause-writes : goal.returns-in-NotANumber-clause-writes
 returns-in-NotANumber-clause-writes g c =
-    let said = c.write-str in
+    let said = c.write_str in
     subst
     (λ (e : NumberFault). WritesOnOk g.W.Write.write_str_gives c.args.f.now said.result (number_fault_line e) said.new.self)
     (sym c.in-NotANumber.is) said.ensures.writes
 
 pub returns-in-TooLarge-clause-writes : goal.returns-in-TooLarge-clause-writes
 returns-in-TooLarge-clause-writes g c =
-    let said = c.write-str-in-TooLarge in
+    let said = c.write_str-in-TooLarge in
     subst
     (λ (e : NumberFault). WritesOnOk g.W.Write.write_str_gives c.args.f.now said.result (number_fault_line e) said.new.self)
     (sym c.in-TooLarge.is) said.ensures.writes

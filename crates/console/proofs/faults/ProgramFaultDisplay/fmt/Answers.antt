@@ -7,7 +7,7 @@ use Rattle.console.proofs.faults.ProgramFaultDisplay.fmt.Goals as goal
 
 pub returns-in-NoMemory-clause-writes : goal.returns-in-NoMemory-clause-writes
 returns-in-NoMemory-clause-writes g c =
-    let said = c.write-str in
+    let said = c.write_str in
     subst
     (λ (e : ProgramFault). WritesOnOk g.W.Write.write_str_gives c.args.f.now said.result (program_fault_line e) said.new.self)
     (sym c.in-NoMemory.is) said.ensures.writes

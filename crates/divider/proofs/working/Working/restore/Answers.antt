@@ -11,20 +11,20 @@ module _ (w : Work) where
   quotient_small : w.dividend < 2 ^ 32 → 2 * w.quotient + 1 < 2 ^ 32
   quotient_small l = omega (arith, quotient_fits w.dividend w.steps w.short w.divisor l)
 
-pub overflow-mul-remainder : goal.overflow-mul-remainder
-overflow-mul-remainder c = let f = remainder_small c.args.self in omega arith
+pub overflow_mul-remainder : goal.overflow_mul-remainder
+overflow_mul-remainder c = let f = remainder_small c.args.self in omega arith
 
-pub overflow-add-remainder : goal.overflow-add-remainder
-overflow-add-remainder c = let f = remainder_small c.args.self in omega arith
+pub overflow_add-remainder : goal.overflow_add-remainder
+overflow_add-remainder c = let f = remainder_small c.args.self in omega arith
 
-pub overflow-mul-result : goal.overflow-mul-result
-overflow-mul-result c = let f = quotient_small c.args.self (omega arith) in omega arith
+pub overflow_mul-result : goal.overflow_mul-result
+overflow_mul-result c = let f = quotient_small c.args.self (omega arith) in omega arith
 
-pub overflow-add-result : goal.overflow-add-result
-overflow-add-result c = let f = quotient_small c.args.self (omega arith) in omega arith
+pub overflow_add-result : goal.overflow_add-result
+overflow_add-result c = let f = quotient_small c.args.self (omega arith) in omega arith
 
-pub overflow-mul-result-else-self-remainder : goal.overflow-mul-result-else-self-remainder
-overflow-mul-result-else-self-remainder c = let f = quotient_small c.args.self (omega arith) in omega arith
+pub overflow_mul-result-else-self-remainder : goal.overflow_mul-result-else-self-remainder
+overflow_mul-result-else-self-remainder c = let f = quotient_small c.args.self (omega arith) in omega arith
 
 pub returns-then-self-remainder : goal.returns-then-self-remainder
 returns-then-self-remainder c =

@@ -7,4 +7,4 @@ pub returns : goal.returns
 returns c =
     let ws = c.args.words.now in
     let table : List ℕ → Program = λ (xs : List ℕ). record { words = xs; len = length ws } in
-    ap table (c.copy-to-front.ensures ∙ ap (λ (xs : List ℕ). ws ++ xs) (drop-replicate (length ws) 1024 0))
+    ap table (c.copy_to_front.ensures ∙ ap (λ (xs : List ℕ). ws ++ xs) (drop-replicate (length ws) 1024 0))

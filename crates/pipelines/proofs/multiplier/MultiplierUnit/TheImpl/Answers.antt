@@ -12,8 +12,8 @@ use Rattle.pipelines.proofs.multiplier.MultiplierUnit.TheImpl.Goals as goal
 one : (u v : Multiplier) → jobs u ≡ jobs v → u ≡ v
 one u v e = ap {A = Queue} {B = Multiplier} (λ q. record { queue = q }) (same_queue u.queue v.queue e)
 
-pub take_tells : goal.take-tells
-take_tells c =
+pub take-tells : goal.take-tells
+take-tells c =
     let u = c.args.self.now in
     let v = c.new.self.now in
     record {
@@ -22,8 +22,8 @@ take_tells c =
       taken = takes 3 4 serves_multiply jobs u v c.args.job (one v u) c.ensures.exact;
     }
 
-pub step_tells : goal.step-tells
-step_tells c =
+pub step-tells : goal.step-tells
+step-tells c =
     let u = c.args.self.now in
     let v = c.new.self.now in
     record {

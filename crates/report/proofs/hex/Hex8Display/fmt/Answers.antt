@@ -20,5 +20,5 @@ eight w a b c d e f g h pa pb pc pd pe pf pg ph =
 pub returns-clause-writes : goal.returns-clause-writes
 returns-clause-writes g c plain ok =
     has_written_of_eq g.W.Write.write_str_gives _ _ _ _
-    (eight c.args.self.now.0 _ _ _ _ _ _ _ _ c.hex-digit.ensures c.hex-digit-2.ensures c.hex-digit-3.ensures c.hex-digit-4.ensures c.hex-digit-5.ensures c.hex-digit-6.ensures c.hex-digit-7.ensures c.hex-digit-8.ensures)
+    (eight c.args.self.now.0 _ _ _ _ _ _ _ _ c.hex_digit.ensures c.hex_digit-2.ensures c.hex_digit-3.ensures c.hex_digit-4.ensures c.hex_digit-5.ensures c.hex_digit-6.ensures c.hex_digit-7.ensures c.hex_digit-8.ensures)
     (c.write.ensures.writes plain ok)

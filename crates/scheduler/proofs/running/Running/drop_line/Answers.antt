@@ -5,10 +5,10 @@ use Rattle.scheduler.proofs.running.Running.drop_line.Goals as goal
 pub returns : goal.returns
 returns g c =
     let laws = g.met.U.Unit in
-    let did = c.set-line.ensures in
+    let did = c.set_line.ensures in
     record {
       outcome = did;
       past = drop-extends g.U.Unit.means g.U.Unit.sound
           (record { stays = laws.stays; dues = laws.dues; tags = laws.tags; offers = laws.offers; rooms = laws.rooms; empty_rooms = laws.empty_rooms })
-          c.args.self.now.state c.set-line.new.running did;
+          c.args.self.now.state c.set_line.new.running did;
     }
