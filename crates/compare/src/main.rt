@@ -12,6 +12,7 @@ use pipelines::multiplier::Multiplier;
 use pipelines::plain::Plain;
 use std::io;
 use std::io::Read;
+use std::process::ExitCode;
 
 // The piles, each joined another way; the second has two units for the plain classes.
 fn replay_cores(rt: &HostRuntime, recordings: &[Recording]) -> anyhow::Result<()> {
@@ -49,10 +50,12 @@ fn run(rt: &HostRuntime) -> anyhow::Result<()> {
     replay_cores(rt, recordings.as_slice())
 }
 
-fn main(rt: HostRuntime) -> anyhow::Result<()> {
-    let result = run(&rt);
-    if let Err(fault) = &result {
-        let _ = eprintln!(rt; "compare: {fault}");
+fn main(rt: HostRuntime) -> ExitCode {
+    match run(&rt) {
+        Ok(()) => ExitCode::SUCCESS,
+        Err(fault) => {
+            let _ = eprintln!(rt; "compare: {fault}");
+            ExitCode::FAILURE
+        }
     }
-    result
 }

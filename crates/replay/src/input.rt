@@ -12,11 +12,11 @@ pub struct Input {
 }
 
 impl Input {
-    pub(crate) fn new(rt: &HostRuntime) -> Input {
-        Input {
-            lines: BufReader::new(rt.stdin()).split(rt.alloc(), b'\n'),
+    pub(crate) fn new(rt: &HostRuntime) -> io::Result<Input> {
+        Ok(Input {
+            lines: BufReader::new(rt.alloc(), rt.stdin())?.split(rt.alloc(), b'\n'),
             number: 0,
-        }
+        })
     }
 
     fn next_line(&mut self) -> io::Result<Option<Vec<u8>>> {

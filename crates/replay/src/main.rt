@@ -19,6 +19,7 @@ use scheduler::running::Running;
 use scheduler::stopped::Stopped;
 use std::io;
 use std::io::Write;
+use std::process::ExitCode;
 use units::unit::Unit;
 
 // Output is written once this much has come together.
@@ -104,7 +105,7 @@ fn write_state<U: Unit>(core: &Running<U>, page: &mut String) -> anyhow::Result<
 }
 
 fn replay<U: Unit + Drop>(rt: &HostRuntime, settings: Settings, unit: U) -> anyhow::Result<()> {
-    let mut input = Input::new(rt);
+    let mut input = Input::new(rt)?;
     let (words, first) = input.words(rt)?;
     let mut stopped = Stopped::new(unit);
     if let Err(fault) = stopped.load(words.as_slice(), settings.pc, settings.vector) {
@@ -146,10 +147,12 @@ fn run(rt: &HostRuntime) -> anyhow::Result<()> {
     }
 }
 
-fn main(rt: HostRuntime) -> anyhow::Result<()> {
-    let result = run(&rt);
-    if let Err(fault) = &result {
-        let _ = eprintln!(rt; "replay: {fault}");
+fn main(rt: HostRuntime) -> ExitCode {
+    match run(&rt) {
+        Ok(()) => ExitCode::SUCCESS,
+        Err(fault) => {
+            let _ = eprintln!(rt; "replay: {fault}");
+            ExitCode::FAILURE
+        }
     }
-    result
 }

@@ -1,4 +1,5 @@
 // The options, from the argument list.
+use anyhow::anyhow;
 use console::numbers::NumberFault;
 use options::addresses::parse_address;
 use std::alloc::AllocError;
@@ -134,12 +135,12 @@ pub(crate) fn settings_of(rt: &HostRuntime) -> anyhow::Result<Settings> {
     for (place, text) in texts.iter().enumerate().skip(1) {
         match settings.take(waiting, text.as_str()) {
             Ok(next) => waiting = next,
-            Err(fault) => return Err(argument_line(rt, texts, place, fault)?.into()),
+            Err(fault) => return Err(anyhow!(argument_line(rt, texts, place, fault)?)),
         }
     }
     if waiting.is_some() {
         let last = texts.len().saturating_sub(1);
-        return Err(argument_line(rt, texts, last, SettingFault::NoValue)?.into());
+        return Err(anyhow!(argument_line(rt, texts, last, SettingFault::NoValue)?));
     }
     Ok(settings)
 }

@@ -24,7 +24,8 @@ use scheduler::running::Running;
 use scheduler::stopped::Stopped;
 use std::alloc::AllocError;
 use std::io::Read;
-use std::{env, fmt, io};
+use std::process::ExitCode;
+use std::{env, io};
 use units::unit::Unit;
 
 type Units = Join<Join<Plain, Multiplier>, Divider>;
@@ -58,7 +59,7 @@ fn options_of(rt: &HostRuntime) -> anyhow::Result<Options> {
     let texts: Vec<String> = env::args(rt)?.skip(1).collect(rt.alloc())?;
     match parse_options(rt.alloc(), texts.as_slice()) {
         Ok(options) => Ok(options),
-        Err(bad) => Err(argument_line(rt, texts.as_slice(), bad)?.into()),
+        Err(bad) => Err(anyhow!(argument_line(rt, texts.as_slice(), bad)?)),
     }
 }
 
@@ -90,7 +91,7 @@ fn machine_of(rt: &HostRuntime, options: &Options, words: &[u32]) -> anyhow::Res
     let mut machine = Machine::new();
     match machine.load(words, options.pc, options.vector) {
         Ok(()) => Ok(machine),
-        Err(fault) => Err(refused_line(rt, fault, words.len(), options)?.into()),
+        Err(fault) => Err(anyhow!(refused_line(rt, fault, words.len(), options)?)),
     }
 }
 
@@ -98,7 +99,7 @@ fn core_of(rt: &HostRuntime, options: &Options, words: &[u32]) -> anyhow::Result
     let mut core = Stopped::new(pile(Plain::new(), Multiplier::new(), Divider::new()));
     match core.load(words, options.pc, options.vector) {
         Ok(()) => Ok(core.start()),
-        Err(fault) => Err(refused_line(rt, fault, words.len(), options)?.into()),
+        Err(fault) => Err(anyhow!(refused_line(rt, fault, words.len(), options)?)),
     }
 }
 
@@ -141,7 +142,11 @@ fn run_session<E: Engine>(
 }
 
 // After a table a line is left blank.
-fn push_summary<E: Engine>(page: &mut String, report: Report, session: &Session<E>) -> fmt::Result {
+fn push_summary<E: Engine>(
+    page: &mut String,
+    report: Report,
+    session: &Session<E>,
+) -> Result<(), AllocError> {
     let gap = match report {
         Report::Records => return Ok(()),
         Report::Table => "\n",
@@ -186,10 +191,12 @@ fn run(rt: &HostRuntime) -> anyhow::Result<()> {
     }
 }
 
-fn main(rt: HostRuntime) -> anyhow::Result<()> {
-    let result = run(&rt);
-    if let Err(fault) = &result {
-        let _ = eprintln!(rt; "trace: {fault}");
+fn main(rt: HostRuntime) -> ExitCode {
+    match run(&rt) {
+        Ok(()) => ExitCode::SUCCESS,
+        Err(fault) => {
+            let _ = eprintln!(rt; "trace: {fault}");
+            ExitCode::FAILURE
+        }
     }
-    result
 }

@@ -2,12 +2,13 @@
 use anyhow::anyhow;
 use console::program::parse_program;
 use report::hex::Hex8;
-use std::fmt;
+use std::alloc::AllocError;
 use std::io::Read;
+use std::process::ExitCode;
 use words::{read, write};
 
 // A word that is not written as it was read is shown beside what came of it.
-fn push_word(page: &mut String, word: u32) -> fmt::Result {
+fn push_word(page: &mut String, word: u32) -> Result<(), AllocError> {
     let shown = Hex8(word);
     match read(word) {
         Ok(instruction) => match write(instruction) {
@@ -34,10 +35,12 @@ fn run(rt: &HostRuntime) -> anyhow::Result<()> {
     Ok(())
 }
 
-fn main(rt: HostRuntime) -> anyhow::Result<()> {
-    let result = run(&rt);
-    if let Err(fault) = &result {
-        let _ = eprintln!(rt; "vectors: {fault}");
+fn main(rt: HostRuntime) -> ExitCode {
+    match run(&rt) {
+        Ok(()) => ExitCode::SUCCESS,
+        Err(fault) => {
+            let _ = eprintln!(rt; "vectors: {fault}");
+            ExitCode::FAILURE
+        }
     }
-    result
 }

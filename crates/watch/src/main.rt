@@ -10,6 +10,7 @@ use refusal::NoRoom;
 use report::hex::Hex8;
 use single::Single;
 use std::io::Read;
+use std::process::ExitCode;
 use std::{env, fmt, io};
 use units::job::{Job, Offer};
 use units::unit::Unit;
@@ -248,7 +249,7 @@ fn watch_named(rt: &HostRuntime, name: &str, jobs: &[Job]) -> io::Result<bool> {
 
 fn run(rt: &HostRuntime) -> anyhow::Result<()> {
     let Some(name) = env::args(rt)?.nth(1) else {
-        return Err(USAGE.into());
+        return Err(anyhow!(USAGE));
     };
     let mut text = String::new(rt.alloc());
     rt.stdin().read_to_string(&mut text)?;
@@ -256,14 +257,16 @@ fn run(rt: &HostRuntime) -> anyhow::Result<()> {
     if watch_named(rt, name.as_str(), jobs.as_slice())? {
         Ok(())
     } else {
-        Err(USAGE.into())
+        Err(anyhow!(USAGE))
     }
 }
 
-fn main(rt: HostRuntime) -> anyhow::Result<()> {
-    let result = run(&rt);
-    if let Err(fault) = &result {
-        let _ = eprintln!(rt; "watch: {fault}");
+fn main(rt: HostRuntime) -> ExitCode {
+    match run(&rt) {
+        Ok(()) => ExitCode::SUCCESS,
+        Err(fault) => {
+            let _ = eprintln!(rt; "watch: {fault}");
+            ExitCode::FAILURE
+        }
     }
-    result
 }

@@ -34,8 +34,8 @@ returns-in-Run g c =
 
 pub returns-in-Raise : goal.returns-in-Raise
 returns-in-Raise g c =
-    (raise, (told_of _ _ _ _ c.in-Raise.is raised, c.raise-line.ensures.past))
+    (raise, (told_of _ _ _ _ c.in-Raise.is raised, c.raise_line.ensures.past))
 
 pub returns-in-Drop : goal.returns-in-Drop
 returns-in-Drop g c =
-    (drop, (told_of _ _ _ _ c.in-Drop.is dropped, c.drop-line.ensures.past))
+    (drop, (told_of _ _ _ _ c.in-Drop.is dropped, c.drop_line.ensures.past))

@@ -9,5 +9,5 @@ tested xs ys r h = search (rules, bytes_eq-Decides)
 
 pub returns : goal.returns
 returns c =
-    tested c.args.name.now c.as-bytes.result.now c.eq.result (slice_eq-Decides Decides-eqb _ _ _ c.eq.ensures)
-    ∙ ap (bytes_eq c.args.name.now) c.as-bytes.ensures.value
+    tested c.args.name.now c.as_bytes.result.now c.eq.result (slice_eq-Decides Decides-eqb _ _ _ c.eq.ensures)
+    ∙ ap (bytes_eq c.args.name.now) c.as_bytes.ensures.value

@@ -7,14 +7,14 @@ use Rattle.past.proofs.faults.CallFaultDisplay.fmt.Goals as goal
 
 pub returns-in-Unknown-clause-writes : goal.returns-in-Unknown-clause-writes
 returns-in-Unknown-clause-writes g c =
-    let said = c.write-str in
+    let said = c.write_str in
     subst
     (λ (e : CallFault). WritesOnOk g.W.Write.write_str_gives c.args.f.now said.result (call_fault_line e) said.new.self)
     (sym c.in-Unknown.is) said.ensures.writes
 
 pub returns-in-Excess-clause-writes : goal.returns-in-Excess-clause-writes
 returns-in-Excess-clause-writes g c =
-    let said = c.write-str-in-Excess in
+    let said = c.write_str-in-Excess in
     subst
     (λ (e : CallFault). WritesOnOk g.W.Write.write_str_gives c.args.f.now said.result (call_fault_line e) said.new.self)
     (sym c.in-Excess.is) said.ensures.writes
