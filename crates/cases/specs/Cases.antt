@@ -5,13 +5,12 @@ use Rattle.isa.specs.declared.instruction.Instruction.{Instruction}
 use Rattle.isa.specs.declared.operation.Operation.{Operation}
 use Rattle.isa.specs.declared.operation.Operation.TheVariants.{Addi, Mul, Div, Rem}
 use Rattle.isa.specs.declared.outcome.Outcome.{Outcome}
-use Rattle.isa.specs.declared.outcome.Outcome.TheVariants.{Done, Misaligned}
+use Rattle.isa.specs.declared.outcome.Outcome.TheVariants.{Done}
 use Rattle.refusal.specs.declared.IllegalWord.{IllegalWord}
 use Rattle.refusal.specs.declared.WriteFault.{WriteFault}
 use Rattle.execute.specs.Outcomes.{outcome_of}
 use Rattle.words.specs.Words.{read_word, write_word}
 use Rattle.refusal.specs.Numbers.{write_fault_number, illegal_word_number}
-use Rattle.machine.specs.declared.cause.Cause.{Cause}
 use Rattle.machine.specs.declared.judgement.Judgement.{Judgement}
 use Rattle.machine.specs.declared.judgement.Judgement.TheVariants.{Trap, Return, Write}
 use Rattle.machine.specs.declared.record.Record.{Record}

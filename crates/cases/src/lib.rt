@@ -1,4 +1,6 @@
 // The worked cases: as one statement about the definitions, and as tests of the code.
+#![tactic(auto)]
+
 ghost use Rattle.cases.specs.Cases.{WorkedCases};
 
 pub fn worked_cases()

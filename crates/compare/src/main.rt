@@ -1,4 +1,6 @@
 // Replays what another simulator did, through the sequential machine and through the core over three piles of units.
+#![tactic(auto)]
+
 mod recording;
 mod replay;
 mod subject;

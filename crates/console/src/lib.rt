@@ -5,6 +5,8 @@
 //   lines     a line of program text
 //   program   program text, line by line
 //   faults    faults in a line for people
+#![tactic(auto)]
+
 mod digits;
 pub mod faults;
 pub mod lines;

@@ -20,7 +20,7 @@ use Rattle.units.specs.Meaning.{room_in}
 use Rattle.divider.specs.declared.division.Division.{Division}
 use Rattle.divider.specs.Divisions.{is_divide, division_of, division_read, division_in}
 use Rattle.divider.specs.Restoring.{quotient_at, remainder_at}
-use Rattle.divider.specs.Signs.{operand, magnitude, negative, negated, differ, signed, result_of}
+use Rattle.divider.specs.Signs.{operand, magnitude, negative, negated, differ, result_of}
 use Rattle.divider.specs.RestoringLemmas.{all_bits, not_zero}
 
 -- the bits of a number, and of its negation

@@ -3,6 +3,8 @@
 //   division  the four divisions, and how they read their operands and sign their results
 //   working   a division on its way
 //   state     what the divider holds, and how a division goes on
+#![tactic(auto)]
+
 ghost use Rattle.std.specs.Prelude.{◌≡◌};
 ghost use Rattle.units.specs.Meaning.{Same, room_for, take_answer, Taken, Stepped, Empty};
 ghost use Rattle.divider.specs.States.{idle, took_in, stepped_in};

@@ -1,4 +1,6 @@
 // What a classed instruction works out from its address and the values of its source registers.
+#![tactic(auto)]
+
 ghost use Rattle.std.specs.Prelude.{◌≡◌, ◌*◌, ◌/◌};
 ghost use Rattle.execute.specs.Outcomes.{residue, left, right, right_signed, less, flag, quotient, remainder, quotient_unsigned, remainder_unsigned, value_of, departs, target_of, landed, outcome_of};
 

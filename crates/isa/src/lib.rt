@@ -4,6 +4,8 @@
 //   instruction  an operation with its registers and its immediate
 //   outcome      the type of what an instruction works out
 //   text         instructions in assembler syntax
+#![tactic(auto)]
+
 pub mod instruction;
 pub mod operation;
 pub mod outcome;

@@ -1,4 +1,6 @@
 // A unit made of two: it serves what either serves, and the two take turns where both offer.
+#![tactic(auto)]
+
 ghost use Rattle.std.specs.Prelude.{◌≡◌, ◌||◌};
 ghost use Rattle.units.specs.Meaning.{Same, Empty, room_for, take_answer};
 ghost use Rattle.units.specs.Runs.{OfferedWithinStay};

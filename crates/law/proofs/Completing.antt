@@ -1,6 +1,6 @@
 -- Complete keeps the tie: the entry whose tag arrived is done with the plan's result, and those that wait for it get its value.
 -- Assumes nothing.
-use Rattle.std.proofs.Common.{◌≡◌, ℕ, ◌+◌, ◌<◌, ◌≤◌, Bool, true, false, cond, eqb, ◌⊎◌, List, map, Some, None, Option, sym, refl, ap, ◌∙◌, subst, inl, inr, arith}
+use Rattle.std.proofs.Common.{◌≡◌, ℕ, ◌<◌, ◌≤◌, Bool, true, false, eqb, Some, None, Option, sym, refl, ap, ◌∙◌, subst, inl, inr, arith}
 use Rattle.std.proofs.lemmas.Bool.{true≢false, eqb-true, eqb-false, eq-eqb, ne_eqb, cond_both}
 use Rattle.std.proofs.lemmas.Bool.Decides.{eqb_tells}
 use Rattle.isa.specs.declared.instruction.Instruction.{Instruction}
@@ -16,7 +16,7 @@ use Rattle.machine.specs.Step.{fetched, judged_outcome, judged, judgement_of}
 use Rattle.units.specs.declared.job.Job.{Job}
 use Rattle.units.specs.declared.job.Offer.{Offer}
 use Rattle.units.specs.Jobs.{job_outcome}
-use Rattle.units.specs.Meaning.{UnitModel, Held, Fell, Moved, Stepped, offers_tag}
+use Rattle.units.specs.Meaning.{UnitModel, Held, Fell, Moved, offers_tag}
 use Rattle.units.specs.Calls.{Keeps, StepCall}
 use Rattle.tables.specs.declared.buffer.Buffer.{Buffer}
 use Rattle.tables.specs.declared.entry.Entry.{Entry}
@@ -24,11 +24,11 @@ use Rattle.tables.specs.declared.station.Operand.{Operand}
 use Rattle.tables.specs.declared.station.Operand.TheVariants.{Value, Awaits}
 use Rattle.tables.specs.declared.station.Station.{Station}
 use Rattle.tables.specs.Buffers.{slot_at, entry_at, entry_in, replaced}
-use Rattle.tables.specs.Waiting.{filled, woken, woken_place, all_woken}
+use Rattle.tables.specs.Waiting.{filled, woken, all_woken}
 use Rattle.law.specs.declared.state.Core.{Core}
 use Rattle.law.specs.Steps.{brings, outcome_brings, finished_entry, completed_by}
 use Rattle.law.proofs.Plan.{destination_of, asks, result, ahead, writer}
-use Rattle.law.proofs.Tied.{AllStations, InStation, slot_of, EntryTied, Brought, OperandTied, Asked, StationTied, JobTied, HeldUnder, Tied}
+use Rattle.law.proofs.Tied.{slot_of, EntryTied, OperandTied, Asked, StationTied, JobTied, Tied}
 use Rattle.law.proofs.Decoding.{work_outcome}
 use Rattle.law.proofs.Slots.{slot_apart, replaced_at, replaced_other, replaced-length}
 use Rattle.law.proofs.Places.{all_weaker, all_both, all_woken_lem, in_woken, woken-length}

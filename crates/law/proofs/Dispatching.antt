@@ -1,11 +1,9 @@
 -- Dispatch keeps the tie: an instruction moves from its station to the unit, with the plan's operands.
 -- Assumes nothing.
-use Rattle.std.proofs.Common.{◌≡◌, ℕ, ◌+◌, ◌<◌, ◌≤◌, Bool, true, false, ◌⊎◌, List, map, Some, None, Option, sym, refl, ap, ◌∙◌, subst, inl, inr, arith}
+use Rattle.std.proofs.Common.{◌≡◌, ℕ, Bool, true, ◌⊎◌, map, Some, None, sym, refl, ap, ◌∙◌, subst, inl, inr, arith}
 use Rattle.std.proofs.lemmas.Bool.Decides.{eqb_tells}
-use Rattle.isa.specs.declared.instruction.Instruction.{Instruction}
 use Rattle.isa.specs.declared.operation.Class.{Class}
 use Rattle.machine.specs.declared.state.Machine.{Machine}
-use Rattle.machine.specs.States.{register_of}
 use Rattle.machine.specs.Step.{fetched}
 use Rattle.units.specs.declared.job.Job.{Job}
 use Rattle.units.specs.Jobs.{word_class}
@@ -20,7 +18,7 @@ use Rattle.tables.specs.Waiting.{job_with, job_of, goes, freed_place}
 use Rattle.law.specs.declared.state.Core.{Core}
 use Rattle.law.specs.Steps.{sent}
 use Rattle.law.proofs.Plan.{ahead}
-use Rattle.law.proofs.Tied.{AllStations, InStation, OperandTied, Asked, StationTied, JobTied, HeldUnder, Tied}
+use Rattle.law.proofs.Tied.{InStation, OperandTied, StationTied, JobTied, HeldUnder, Tied}
 use Rattle.law.proofs.Decoding.{work-class}
 use Rattle.law.proofs.Places.{all_both, all_freed_lem, in_freed, freed_length, job-tag, goes_from}
 use Rattle.law.proofs.Falls.{not_held, was-held, stays-held, stays_free, holds_it, holds_only}

@@ -1,6 +1,6 @@
 -- Each call extends every past of the core, and the law holds of what it extends to.
 -- Assumes nothing.
-use Rattle.std.proofs.Common.{ℕ, Bool, true, false, List, [], ◌∷◌, Option, Result}
+use Rattle.std.proofs.Common.{ℕ, true, false, List, [], ◌∷◌, Option, Result}
 use Rattle.refusal.specs.declared.IssueFault.{IssueFault}
 use Rattle.refusal.specs.declared.NoneGoes.{NoneGoes}
 use Rattle.refusal.specs.declared.RetireFault.{RetireFault}

@@ -1,6 +1,6 @@
 -- What is held under a tag, before and after a call in which dues fell.
 -- Assumes nothing.
-use Rattle.std.proofs.Common.{◌≡◌, ℕ, ◌+◌, ◌≤◌, Bool, true, false, Some, None, Option, sym, refl, ap, ◌∙◌, subst, arith}
+use Rattle.std.proofs.Common.{◌≡◌, ℕ, ◌+◌, ◌≤◌, Bool, true, false, Some, None, Option, sym, refl, ap, ◌∙◌, arith}
 use Rattle.units.specs.declared.job.Job.{Job}
 use Rattle.units.specs.Meaning.{Held, Fell, Holds, Moved}
 

@@ -1,6 +1,6 @@
 -- Issue keeps the tie: it adds the plan's next instruction behind those in flight.
 -- Assumes nothing.
-use Rattle.std.proofs.Common.{◌≡◌, ℕ, zero, suc, ◌+◌, ◌<◌, ◌≤◌, Bool, true, false, cond, not, ◌&&◌, eqb, ◌⊎◌, length, Some, None, Option, sym, refl, ap, ◌∙◌, subst, inl, inr, arith}
+use Rattle.std.proofs.Common.{◌≡◌, ℕ, suc, ◌+◌, ◌<◌, ◌≤◌, Bool, true, false, cond, not, ◌&&◌, eqb, ◌⊎◌, length, Some, None, Option, sym, refl, ap, ◌∙◌, subst, inl, inr, arith}
 use Rattle.std.proofs.lemmas.Bool.{true≢false, cases_lt}
 use Rattle.isa.specs.declared.instruction.Instruction.{Instruction}
 use Rattle.isa.specs.declared.operation.Class.{Class}
@@ -15,7 +15,7 @@ use Rattle.machine.specs.Classes.{serves}
 use Rattle.machine.specs.Decode.{decoded}
 use Rattle.machine.specs.Programs.{word_at}
 use Rattle.machine.specs.States.{register_of}
-use Rattle.machine.specs.Step.{fetched, word_or0, judged, judgement_of}
+use Rattle.machine.specs.Step.{fetched, word_or0, judged}
 use Rattle.units.specs.declared.job.Job.{Job}
 use Rattle.units.specs.Meaning.{UnitModel, Held}
 use Rattle.tables.specs.declared.buffer.Buffer.{Buffer}
@@ -23,13 +23,13 @@ use Rattle.tables.specs.declared.entry.Entry.{Entry}
 use Rattle.tables.specs.declared.station.Operand.{Operand}
 use Rattle.tables.specs.declared.station.Operand.TheVariants.{Value, Awaits}
 use Rattle.tables.specs.declared.station.Station.{Station}
-use Rattle.tables.specs.Buffers.{slot_at, entry_at, full, pushed}
-use Rattle.tables.specs.Waiting.{any_free, placed}
-use Rattle.tables.specs.Tagging.{tag_of, tagged}
+use Rattle.tables.specs.Buffers.{slot_at, entry_at, pushed}
+use Rattle.tables.specs.Waiting.{any_free}
+use Rattle.tables.specs.Tagging.{tag_of}
 use Rattle.law.specs.declared.state.Core.{Core}
 use Rattle.law.specs.Steps.{brings, result_operand, operand_by, operand_of, fetched_word, asked, entry_for, new_entry, new_station, needs_station, stations_for, issued}
 use Rattle.law.proofs.Plan.{destination_of, asks, result, ahead, writes, writer, writer_brings}
-use Rattle.law.proofs.Tied.{AllStations, InStation, slot_of, EntryTied, Brought, OperandTied, Asked, StationTied, JobTied, HeldUnder, Shaped, EntriesTied, TagsTied, WorkTied, Tied}
+use Rattle.law.proofs.Tied.{AllStations, InStation, slot_of, EntryTied, OperandTied, Asked, StationTied, JobTied, Tied}
 use Rattle.law.proofs.Ahead.{ahead-last, ahead_program, past_registers, value_of_writer, writer-below}
 use Rattle.law.proofs.Decoding.{decoded_same}
 use Rattle.law.proofs.Slots.{slot_apart, pushed_old, pushed_new, pushed-length}

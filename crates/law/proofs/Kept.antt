@@ -1,28 +1,27 @@
 -- What each call on a tied core does to the machine, and to the rank.
 -- Assumes nothing.
-use Rattle.std.proofs.Common.{◌≡◌, ℕ, zero, suc, ◌+◌, ◌<◌, ◌≤◌, Bool, true, false, cond, not, ◌&&◌, eqb, leb, ◌⊎◌, Some, None, Ok, Err, Option, Result, sym, refl, ap, ◌∙◌, subst, inl, inr, arith}
-use Rattle.std.proofs.lemmas.Bool.{true≢false, leb-true, leb-false, eqb-true, eqb-false, not_from_true, and_right, cond-true, cond-false}
+use Rattle.std.proofs.Common.{◌≡◌, ℕ, suc, ◌<◌, ◌≤◌, Bool, true, false, cond, not, ◌&&◌, eqb, ◌⊎◌, Some, None, Ok, Err, Option, Result, sym, refl, ap, ◌∙◌, subst, inl, inr, arith}
+use Rattle.std.proofs.lemmas.Bool.{true≢false, leb-true, leb-false, not_from_true, and_right, cond-true, cond-false}
 use Rattle.std.proofs.lemmas.Bool.Decides.{eqb_tells}
 use Rattle.isa.specs.declared.operation.Class.{Class}
 use Rattle.refusal.specs.declared.IssueFault.{IssueFault}
 use Rattle.refusal.specs.declared.IssueFault.TheVariants.{BufferFull, NoStation}
 use Rattle.refusal.specs.declared.NoneGoes.{NoneGoes}
 use Rattle.refusal.specs.declared.RetireFault.{RetireFault}
-use Rattle.refusal.specs.declared.RetireFault.TheVariants.{Empty, HeadWaits}
 use Rattle.machine.specs.declared.judgement.Judgement.{Judgement}
 use Rattle.machine.specs.declared.record.Record.{Record}
 use Rattle.machine.specs.declared.state.Machine.{Machine}
-use Rattle.machine.specs.Step.{word_or0, fetched, applied, judgement_of, step}
+use Rattle.machine.specs.Step.{word_or0, fetched, applied, step}
 use Rattle.units.specs.declared.job.Job.{Job}
 use Rattle.units.specs.declared.job.Offer.{Offer}
 use Rattle.units.specs.Meaning.{UnitModel}
-use Rattle.units.specs.Calls.{Keeps, TakeCall, StepCall, ClearCall}
+use Rattle.units.specs.Calls.{Keeps}
 use Rattle.tables.specs.declared.entry.Entry.{Entry}
 use Rattle.tables.specs.Buffers.{entry_at, full, oldest_entry, next_slot}
 use Rattle.tables.specs.Waiting.{any_free}
 use Rattle.law.specs.declared.state.Core.{Core}
 use Rattle.law.specs.declared.state.Running.{Running}
-use Rattle.law.specs.Steps.{asked, needs_station, issue_answer, issued, sent, completed_by, diverts, stepped, retired_on, flushed, lined}
+use Rattle.law.specs.Steps.{asked, needs_station, issue_answer, issued, completed_by, diverts, stepped, retired_on, lined}
 use Rattle.law.specs.Calls.{IssueCall, IssueDoes, DispatchCall, DispatchDoes, going, CompleteCall, RetireCall, Retires, RetiresEntry, RetireMoves, CycleCall, record_of, LineCall}
 use Rattle.law.specs.Laws.{Fed}
 use Rattle.law.proofs.Tied.{Tied}

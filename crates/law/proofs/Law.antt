@@ -1,24 +1,21 @@
 -- The law of every past, by induction on the past.
 -- Assumes nothing.
-use Rattle.std.proofs.Common.{◌≡◌, ℕ, zero, suc, ◌+◌, ◌*◌, ◌<◌, ◌≤◌, Bool, true, false, ◌⊎◌, List, [], ◌∷◌, ◌++◌, Some, None, Ok, Err, Option, Result, sym, refl, ap, ◌∙◌, subst, inl, inr, suc-mul, arith}
-use Rattle.std.proofs.lemmas.Bool.{cases_lt}
+use Rattle.std.proofs.Common.{◌≡◌, ℕ, zero, suc, ◌+◌, ◌*◌, ◌<◌, ◌≤◌, Bool, true, false, List, [], ◌∷◌, ◌++◌, Some, None, Ok, Err, Option, Result, sym, refl, ap, ◌∙◌, subst, suc-mul, arith}
 use Rattle.isa.specs.declared.operation.Class.{Class}
 use Rattle.refusal.specs.declared.RetireFault.{RetireFault}
 use Rattle.machine.specs.declared.record.Record.{Record}
-use Rattle.machine.specs.Step.{step}
 use Rattle.units.specs.Meaning.{UnitModel}
 use Rattle.units.specs.Calls.{Keeps}
 use Rattle.law.specs.declared.state.Core.{Core}
 use Rattle.law.specs.declared.state.Running.{Running}
 use Rattle.law.specs.declared.state.Stopped.{Stopped}
-use Rattle.law.specs.Steps.{begun}
 use Rattle.law.specs.Calls.{RunCall, done, spent, idle, retires}
 use Rattle.law.specs.Pasts.{Event, issue, dispatch, complete, retire, cycle, run, raise, drop, Past, started, issued, dispatched, completed, retired, cycled, ran, raised, dropped}
-use Rattle.law.specs.Laws.{Fed, reports, steps_of, feed, fed, Truthful, AllTruthful, wait, cycle_calls, reported, RunKept, AllRunsKept, at_start, Law, LawOfEveryPast}
+use Rattle.law.specs.Laws.{Fed, reports, steps_of, feed, fed, Truthful, AllTruthful, wait, cycle_calls, reported, AllRunsKept, at_start, LawOfEveryPast}
 use Rattle.law.proofs.Tied.{Tied}
 use Rattle.law.proofs.Starting.{start_ties}
 use Rattle.law.proofs.Rank.{done as ready, held, waiting, empty, within_one, within-wait}
-use Rattle.law.proofs.Kept.{Holds, Soon, seen, seen_core, with_line, once, Retired, Cycled, issue-holds, issue-soon, dispatch-holds, dispatch-soon, loosen, complete-holds, complete-soon, retire-holds, cycle-holds, line_holds, line_soon}
+use Rattle.law.proofs.Kept.{Holds, Soon, seen, seen_core, Retired, Cycled, issue-holds, issue-soon, dispatch-holds, dispatch-soon, loosen, complete-holds, complete-soon, retire-holds, cycle-holds, line_holds, line_soon}
 
 module _ {A : Type 0} (m : UnitModel A) (sound : A → Type 0) (keeps : Keeps m sound) (served : Class → Bool) (stay : ℕ) where
   -- runs -----------------------------------------------------------------------------------------

@@ -1,7 +1,7 @@
 -- The plan: what each instruction in flight has to compute, as a function of the machine alone.
 -- Instructions are fetched straight ahead from pc, and a retirement that goes anywhere else drops them all.
 -- Assumes nothing.
-use Rattle.std.proofs.Common.{ℕ, zero, suc, ◌+◌, ◌%◌, Bool, true, false, cond, not, ◌&&◌, eqb, Some, None, Option}
+use Rattle.std.proofs.Common.{ℕ, zero, suc, Bool, cond, not, ◌&&◌, eqb, Some, None, Option}
 use Rattle.isa.specs.declared.operation.Class.{Class}
 use Rattle.execute.specs.Outcomes.{sum}
 use Rattle.machine.specs.declared.decode.Decoded.{Decoded}

@@ -1,33 +1,29 @@
 -- The rank: a bound on the cycle calls until a retirement, by where the oldest entry is.
 -- Assumes nothing.
-use Rattle.std.proofs.Common.{◌≡◌, ℕ, zero, suc, ◌+◌, ◌*◌, ◌<◌, ◌≤◌, max, Bool, true, false, not, ◌&&◌, ◌⊎◌, List, Some, None, Option, sym, refl, ap, ◌∙◌, subst, inl, inr, arith}
-use Rattle.std.proofs.lemmas.Bool.{true≢false, cases_Bool, cases_lt}
+use Rattle.std.proofs.Common.{◌≡◌, ℕ, ◌+◌, ◌<◌, ◌≤◌, Bool, true, false, Some, None, Option, sym, refl, ap, ◌∙◌, subst, inl, inr, arith}
+use Rattle.std.proofs.lemmas.Bool.{cases_Bool, cases_lt}
 use Rattle.isa.specs.declared.instruction.Instruction.{Instruction}
 use Rattle.isa.specs.declared.operation.Class.{Class}
-use Rattle.machine.specs.declared.decode.Decoded.{Decoded}
 use Rattle.machine.specs.declared.decode.Decoded.TheVariants.{Work}
 use Rattle.machine.specs.declared.judgement.Judgement.{Judgement}
 use Rattle.machine.specs.declared.state.Machine.{Machine}
 use Rattle.machine.specs.Step.{fetched}
 use Rattle.units.specs.declared.job.Job.{Job}
-use Rattle.units.specs.declared.job.Offer.{Offer}
 use Rattle.units.specs.Meaning.{UnitModel, Held, Empty}
-use Rattle.units.specs.Calls.{Keeps, TakeCall, StepCall}
+use Rattle.units.specs.Calls.{Keeps}
 use Rattle.tables.specs.declared.buffer.Buffer.{Buffer}
-use Rattle.tables.specs.declared.entry.Entry.{Entry}
 use Rattle.tables.specs.declared.station.Operand.{Operand}
 use Rattle.tables.specs.declared.station.Operand.TheVariants.{Value, Awaits}
 use Rattle.tables.specs.declared.station.Station.{Station}
 use Rattle.tables.specs.Buffers.{slot_at, entry_at}
-use Rattle.tables.specs.Waiting.{job_with, job_of, age, blocked, goes}
+use Rattle.tables.specs.Waiting.{job_with, job_of, age, goes}
 use Rattle.law.specs.declared.state.Core.{Core}
 use Rattle.law.specs.Laws.{wait}
 use Rattle.law.proofs.Plan.{asks, ahead}
-use Rattle.law.proofs.Tied.{AllStations, InStation, OperandTied, Asked, StationTied, JobTied, HeldUnder, Tied}
+use Rattle.law.proofs.Tied.{AllStations, InStation, OperandTied, StationTied, Tied}
 use Rattle.law.proofs.Decoding.{work-served}
 use Rattle.law.proofs.Slots.{slot_apart, slot_of_head, age_of_slot}
 use Rattle.law.proofs.Places.{all_weaker, all_both, station_in, job-tag, goes_from, goes_oldest, none_goes, not_blocked, blocked_by}
-use Rattle.law.proofs.Falls.{not_held}
 use Rattle.law.proofs.Dispatching.{job-tied}
 
 module _ {A : Type 0} (m : UnitModel A) (stay : ℕ) where

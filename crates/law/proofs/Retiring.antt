@@ -1,8 +1,8 @@
 -- A retirement keeps the tie: one that goes on to pc + 4 shifts the plan by one, any other leaves nothing in flight.
 -- Assumes nothing.
-use Rattle.std.proofs.Common.{◌≡◌, ℕ, zero, suc, ◌+◌, ◌-◌, ◌<◌, ◌≤◌, Bool, true, false, cond, not, ◌&&◌, ◌||◌, eqb, ◌⊎◌, length, set, Some, None, Option, sym, refl, ap, ◌∙◌, subst, inl, inr, arith, length-set}
+use Rattle.std.proofs.Common.{◌≡◌, ℕ, zero, suc, ◌-◌, ◌<◌, Bool, true, false, cond, not, ◌&&◌, ◌||◌, eqb, ◌⊎◌, length, set, Some, None, Option, sym, refl, ap, ◌∙◌, subst, inl, inr, arith, length-set}
 use Rattle.std.proofs.lemmas.Bool.{eqb-true, false≢true}
-use Rattle.std.proofs.lemmas.Bool.Decides.{nat_tests, eqb_tells}
+use Rattle.std.proofs.lemmas.Bool.Decides.{eqb_tells}
 use Rattle.isa.specs.declared.instruction.Instruction.{Instruction}
 use Rattle.isa.specs.declared.operation.Class.{Class}
 use Rattle.isa.specs.declared.outcome.Outcome.{Outcome}
@@ -19,7 +19,7 @@ use Rattle.machine.specs.Causes.{external_interrupt}
 use Rattle.machine.specs.States.{register_of, with_register}
 use Rattle.machine.specs.Step.{judged_outcome, judged, judgement_of, entered, returned, written, recorded, settled, applied}
 use Rattle.units.specs.declared.job.Job.{Job}
-use Rattle.units.specs.Meaning.{UnitModel, Held}
+use Rattle.units.specs.Meaning.{UnitModel}
 use Rattle.units.specs.Calls.{ClearCall}
 use Rattle.tables.specs.declared.buffer.Buffer.{Buffer}
 use Rattle.tables.specs.declared.entry.Entry.{Entry}
@@ -30,9 +30,9 @@ use Rattle.tables.specs.Buffers.{slot_at, entry_at, popped}
 use Rattle.tables.specs.Tagging.{tag_of, names, untagged}
 use Rattle.law.specs.declared.state.Core.{Core}
 use Rattle.law.specs.Pasts.{Sized}
-use Rattle.law.specs.Steps.{brings, diverts, stepped, retired_on, flushed}
+use Rattle.law.specs.Steps.{brings, diverts, retired_on, flushed}
 use Rattle.law.proofs.Plan.{destination_of, asks, result, straight, ahead, writes, writer}
-use Rattle.law.proofs.Tied.{AllStations, InStation, slot_of, EntryTied, Brought, OperandTied, Asked, StationTied, JobTied, HeldUnder, Shaped, EntriesTied, TagsTied, WorkTied, Tied}
+use Rattle.law.proofs.Tied.{InStation, slot_of, EntryTied, Brought, OperandTied, Asked, StationTied, JobTied, HeldUnder, Tied}
 use Rattle.law.proofs.Ahead.{shifted, writer-below, writer_shift}
 use Rattle.law.proofs.Slots.{slot_apart, slot_of_head, slot_popped, popped_at}
 use Rattle.law.proofs.Places.{all_weaker}

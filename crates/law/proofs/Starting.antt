@@ -1,13 +1,11 @@
 -- With nothing in flight a core is tied to the plan: so start and a retirement that drops everything make the tie.
 -- Assumes nothing.
-use Rattle.std.proofs.Common.{◌≡◌, ℕ, zero, suc, ◌+◌, ◌<◌, ◌≤◌, Bool, true, false, Some, None, Option, sym, refl, ap, ◌∙◌, subst, arith}
+use Rattle.std.proofs.Common.{◌≡◌, ℕ, Bool, true, false, None, sym, refl, ap, ◌∙◌, subst, arith}
 use Rattle.isa.specs.declared.operation.Class.{Class}
 use Rattle.isa.specs.declared.operation.Class.TheVariants.{Plain, Multiply, Divide, Transfer}
-use Rattle.machine.specs.declared.state.Machine.{Machine}
 use Rattle.machine.specs.Classes.{serves}
-use Rattle.units.specs.Meaning.{UnitModel, Held, Empty, Same}
+use Rattle.units.specs.Meaning.{UnitModel, Empty}
 use Rattle.units.specs.Calls.{Keeps, ClearCall}
-use Rattle.tables.specs.declared.buffer.Buffer.{Buffer}
 use Rattle.tables.specs.Waiting.{no_stations}
 use Rattle.tables.specs.Tagging.{no_tags, tag_of}
 use Rattle.law.specs.declared.state.Core.{Core}
@@ -15,7 +13,7 @@ use Rattle.law.specs.declared.state.Stopped.{Stopped}
 use Rattle.law.specs.Pasts.{Sized}
 use Rattle.law.specs.Steps.{roomy, begun}
 use Rattle.law.proofs.Plan.{ahead, writer}
-use Rattle.law.proofs.Tied.{Shaped, EntriesTied, TagsTied, WorkTied, Tied, StationTied, AllStations, slot_of}
+use Rattle.law.proofs.Tied.{Shaped, Tied, StationTied, AllStations, slot_of}
 use Rattle.law.proofs.RegisterTags.{no_tag}
 use Rattle.law.proofs.Falls.{not_held}
 

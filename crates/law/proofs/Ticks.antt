@@ -1,7 +1,7 @@
 -- No call raises the rank, and complete and dispatch together lower it.
 -- Assumes nothing.
-use Rattle.std.proofs.Common.{◌≡◌, ℕ, zero, suc, ◌+◌, ◌<◌, ◌≤◌, Bool, true, false, cond, not, ◌&&◌, eqb, ◌⊎◌, List, Some, None, Option, sym, refl, ap, ◌∙◌, subst, inl, inr, arith}
-use Rattle.std.proofs.lemmas.Bool.{true≢false, eqb-true, cases_Bool}
+use Rattle.std.proofs.Common.{◌≡◌, ℕ, zero, suc, ◌<◌, ◌≤◌, Bool, true, false, not, ◌&&◌, ◌⊎◌, Some, None, Option, sym, refl, ap, ◌∙◌, subst, inl, inr, arith}
+use Rattle.std.proofs.lemmas.Bool.{true≢false, eqb-true}
 use Rattle.isa.specs.declared.operation.Class.{Class}
 use Rattle.machine.specs.declared.judgement.Judgement.{Judgement}
 use Rattle.machine.specs.Step.{judged_outcome}
@@ -10,17 +10,16 @@ use Rattle.units.specs.declared.job.Offer.{Offer}
 use Rattle.units.specs.Meaning.{UnitModel, Held, Empty, Moved, offers_tag}
 use Rattle.units.specs.Calls.{Keeps, TakeCall, StepCall}
 use Rattle.tables.specs.declared.entry.Entry.{Entry}
-use Rattle.tables.specs.declared.station.Station.{Station}
 use Rattle.tables.specs.Buffers.{slot_at, entry_at, entry_in, pushed, replaced}
 use Rattle.tables.specs.Waiting.{any_free, goes}
 use Rattle.law.specs.declared.state.Core.{Core}
 use Rattle.law.specs.Steps.{asked, new_entry, needs_station, issued, sent, outcome_brings, finished_entry, completed_by}
-use Rattle.law.proofs.Tied.{AllStations, InStation, StationTied, JobTied, Tied}
+use Rattle.law.proofs.Tied.{InStation, StationTied, JobTied, Tied}
 use Rattle.law.proofs.Slots.{replaced_at, replaced_other, pushed_old}
 use Rattle.law.proofs.Places.{all_weaker, in_woken, free_if_none, job-tag}
 use Rattle.law.proofs.Falls.{not_held, was-held, Stays, stays-held, was_not_offered, holds_it}
 use Rattle.law.proofs.Issuing.{still_in, issue-keeps}
-use Rattle.law.proofs.Dispatching.{Sender, sender, takes}
+use Rattle.law.proofs.Dispatching.{sender, takes}
 use Rattle.law.proofs.Rank.{DueWithin, Within, done, held, waiting, empty, nothing_held, within_one, head_goes, goes_with_room, room_when_empty}
 
 is_done : {X : Type 0} (j : Judgement) (o : Option Judgement) → o ≡ None → o ≡ Some j → X

@@ -13,7 +13,6 @@ use Rattle.units.specs.Calls.{TakeCall, StepCall, ClearCall}
 use Rattle.tables.specs.declared.entry.Entry.{Entry}
 use Rattle.tables.specs.Buffers.{oldest_entry}
 use Rattle.tables.specs.Waiting.{goes}
-use Rattle.law.specs.declared.state.Core.{Core}
 use Rattle.law.specs.declared.state.Running.{Running}
 use Rattle.law.specs.declared.state.Stopped.{Stopped}
 use Rattle.law.specs.Steps.{begun, issue_answer, issued, sent, completed_by, complete_answer, diverts, stepped, retired_on, flushed, lined}

@@ -1,8 +1,7 @@
 -- The law of every past, in terms of calls, answers and the sequential machine.
 -- Assumes nothing.
-use Rattle.std.specs.Prelude.{◌≡◌, ℕ, zero, suc, ◌+◌, ◌*◌, ◌<◌, ◌≤◌, max, Bool, true, false, List, [], ◌∷◌, ◌++◌, Some, None, Ok, Err, Option, Result}
+use Rattle.std.specs.Prelude.{◌≡◌, ℕ, zero, suc, ◌+◌, ◌*◌, ◌<◌, ◌≤◌, max, Bool, true, false, List, [], ◌∷◌, ◌++◌, Some, None, Ok, Err}
 use Rattle.isa.specs.declared.operation.Class.{Class}
-use Rattle.machine.specs.declared.record.Record.{Record}
 use Rattle.machine.specs.declared.state.Machine.{Machine}
 use Rattle.machine.specs.Step.{step}
 use Rattle.units.specs.Meaning.{UnitModel}

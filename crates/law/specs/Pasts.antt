@@ -1,6 +1,6 @@
 -- The past of a running core: its start and the calls since, refused ones too.
 -- Assumes nothing.
-use Rattle.std.specs.Prelude.{◌≡◌, ℕ, ◌+◌, Bool, true, false, List, [], ◌∷◌, length, Some, None, Ok, Err, Option, Result}
+use Rattle.std.specs.Prelude.{◌≡◌, ℕ, true, false, List, [], ◌∷◌, length, Option, Result}
 use Rattle.refusal.specs.declared.IssueFault.{IssueFault}
 use Rattle.refusal.specs.declared.NoneGoes.{NoneGoes}
 use Rattle.refusal.specs.declared.RetireFault.{RetireFault}

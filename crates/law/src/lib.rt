@@ -2,5 +2,7 @@
 //
 //   state  the core without its unit, running and stopped
 //   past   the law that holds of every past of every core
+#![tactic(auto)]
+
 pub mod past;
 pub mod state;

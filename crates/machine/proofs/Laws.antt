@@ -1,19 +1,18 @@
 -- The laws of a step and of any number of steps.
 -- Assumes nothing.
-use Rattle.std.proofs.Common.{◌≡◌, ℕ, ◌+◌, ◌%◌, ◌^◌, Bool, true, false, cond, ◌&&◌, eqb, ◌≢◌, List, [], ◌∷◌, get_or, set, Some, None, Option, sym, refl, ap, ◌∙◌, subst, inl, inr, arith, get_or-set_other}
+use Rattle.std.proofs.Common.{◌≡◌, ℕ, ◌%◌, Bool, true, false, cond, ◌&&◌, eqb, ◌≢◌, List, [], ◌∷◌, get_or, set, Some, None, Option, sym, refl, subst, inl, inr, arith, get_or-set_other}
 use Rattle.std.proofs.lemmas.Bool.Decides.{nat_tests, eqb_tells}
 use Rattle.isa.specs.declared.instruction.Instruction.{Instruction}
 use Rattle.isa.specs.declared.operation.Class.{Class}
 use Rattle.isa.specs.declared.outcome.Outcome.{Outcome}
 use Rattle.isa.specs.declared.outcome.Outcome.TheVariants.{Done, Misaligned}
 use Rattle.isa.specs.Classes.{class_of}
-use Rattle.execute.specs.Outcomes.{sum, value_of, target_of, departs, landed, worked_out, if_classed, outcome_of}
+use Rattle.execute.specs.Outcomes.{sum, value_of, target_of, departs, landed, worked_out, if_classed}
 use Rattle.machine.specs.declared.decode.Decoded.{Decoded}
 use Rattle.machine.specs.declared.decode.Decoded.TheVariants.{Trap as AsksTrap, Return as AsksReturn, Work}
 use Rattle.machine.specs.declared.judgement.Judgement.{Judgement}
 use Rattle.machine.specs.declared.judgement.Judgement.TheVariants.{Trap, Return, Write}
 use Rattle.machine.specs.declared.record.Record.{Record}
-use Rattle.machine.specs.declared.record.Retirement.{Retirement}
 use Rattle.machine.specs.declared.record.Retirement.TheVariants.{Plain, Trapped, Interrupted}
 use Rattle.machine.specs.declared.state.Machine.{Machine}
 use Rattle.machine.specs.Decode.{decoded}

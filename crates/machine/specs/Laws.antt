@@ -1,9 +1,8 @@
 -- What programmers rely on, whatever the program: laws of a step and of any number of steps.
 -- Assumes nothing.
-use Rattle.std.specs.Prelude.{◌≡◌, ℕ, ◌%◌, Bool, List, ◌≢◌}
+use Rattle.std.specs.Prelude.{◌≡◌, ◌%◌, Bool, List, ◌≢◌}
 use Rattle.isa.specs.declared.operation.Class.{Class}
 use Rattle.machine.specs.declared.record.Record.{Record}
-use Rattle.machine.specs.declared.record.Retirement.{Retirement}
 use Rattle.machine.specs.declared.record.Retirement.TheVariants.{Trapped}
 use Rattle.machine.specs.declared.state.Machine.{Machine}
 use Rattle.machine.specs.States.{register_of, with_register}

@@ -1,12 +1,10 @@
 -- One step of the sequential machine: the instruction at pc is judged, and the judgement applied to the state.
 -- Assumes nothing.
-use Rattle.std.specs.Prelude.{ℕ, ◌%◌, Bool, true, false, cond, ◌&&◌, List, [], ◌∷◌, Some, None, Option, ◌==◌}
-use Rattle.isa.specs.declared.instruction.Instruction.{Instruction}
+use Rattle.std.specs.Prelude.{ℕ, Bool, true, false, cond, ◌&&◌, List, [], ◌∷◌, Some, None, Option, ◌==◌}
 use Rattle.isa.specs.declared.operation.Class.{Class}
 use Rattle.isa.specs.declared.outcome.Outcome.{Outcome}
 use Rattle.isa.specs.declared.outcome.Outcome.TheVariants.{Done, Misaligned}
 use Rattle.execute.specs.Outcomes.{outcome_of}
-use Rattle.machine.specs.declared.cause.Cause.{Cause}
 use Rattle.machine.specs.declared.cause.Cause.TheVariants.{MisalignedTarget, IllegalInstruction}
 use Rattle.machine.specs.declared.decode.Decoded.{Decoded}
 use Rattle.machine.specs.declared.decode.Decoded.TheVariants.{Trap as AsksTrap, Return as AsksReturn, Work}

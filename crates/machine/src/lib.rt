@@ -9,6 +9,8 @@
 //   decode    what the word at pc asks for
 //   judgement what an instruction does to the state
 //   step      one step: judge the instruction at pc, then apply the judgement to the state
+#![tactic(auto)]
+
 pub mod cause;
 pub mod classes;
 pub mod decode;

@@ -5,6 +5,8 @@
 //   designers   puts a unit under a core
 //   timing      adds up the longest wait
 //   assemblers  writes words
+#![tactic(auto)]
+
 mod assemblers;
 mod bench;
 mod designers;

@@ -1,4 +1,6 @@
 // Every refusal, with its number and the line that names it.
+#![tactic(auto)]
+
 ghost use Rattle.std.specs.Prelude.{◌≡◌, Some};
 ghost use Rattle.refusal.specs.Numbers.{load_fault_number, skew_number, no_register_number, issue_fault_number, none_goes_number, retire_fault_number, no_room_number, write_fault_number, illegal_word_number};
 ghost use Rattle.refusal.specs.Lines.{load_fault_line, skew_line, no_register_line, issue_fault_line, none_goes_line, retire_fault_line, no_room_line, write_fault_line, illegal_word_line};

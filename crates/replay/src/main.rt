@@ -1,4 +1,6 @@
 // Replays a past on a running core: reads a program and then calls, and writes what each call answers.
+#![tactic(auto)]
+
 ghost use Rattle.replay.specs.Told.{Answered};
 
 mod input;

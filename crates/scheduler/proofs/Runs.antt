@@ -1,6 +1,6 @@
 -- A run, cycle by cycle: what is made so far, and what is left, make the whole.
 -- Assumes nothing.
-use Rattle.std.proofs.Common.{◌≡◌, ℕ, suc, ◌+◌, ◌-◌, ◌<◌, ◌≤◌, Some, None, Option, sym, refl, ap, ◌∙◌, subst, arith}
+use Rattle.std.proofs.Common.{◌≡◌, ℕ, suc, ◌+◌, ◌-◌, ◌<◌, ◌≤◌, Some, None, Option, refl, subst, arith}
 use Rattle.machine.specs.declared.record.Record.{Record}
 use Rattle.units.specs.Meaning.{UnitModel}
 use Rattle.law.specs.declared.state.Running.{Running}

@@ -1,6 +1,6 @@
 -- A stopped core as it is made, loaded and written; a refusal leaves it as it was.
 -- Assumes nothing.
-use Rattle.std.specs.Prelude.{ℕ, Bool, true, false, cond, ◌&&◌, List, length, nat_le}
+use Rattle.std.specs.Prelude.{ℕ, false, cond, ◌&&◌, List, length, nat_le}
 use Rattle.machine.specs.declared.state.Machine.{Machine}
 use Rattle.machine.specs.States.{aligned, fresh, load_state, write_register_state, write_pc_state}
 use Rattle.law.specs.declared.state.Stopped.{Stopped}

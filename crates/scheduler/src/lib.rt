@@ -4,6 +4,8 @@
 //   running  a core that issues, dispatches, completes and retires
 //   calls    what each call does to core and unit
 //   flight   what it does to the core without its unit
+#![tactic(auto)]
+
 mod calls;
 mod flight;
 pub mod running;

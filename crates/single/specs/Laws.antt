@@ -1,18 +1,17 @@
 -- The single-job unit keeps the meaning of a unit.
 -- Assumes nothing.
-use Rattle.std.specs.Prelude.{◌≡◌, ℕ, Bool, true, false, cond, ◌&&◌, eqb, Some, None, Option, refl}
+use Rattle.std.specs.Prelude.{◌≡◌, ℕ, Bool, true, cond, ◌&&◌, Some, None, Option, refl}
 use Rattle.std.proofs.Common.{sym, ap, subst, ◌∙◌, arith}
 use Rattle.std.proofs.lemmas.Bool.{eq-eqb, ne_eqb}
 use Rattle.isa.specs.declared.operation.Class.{Class}
 use Rattle.isa.specs.declared.operation.Class.TheVariants.{Plain, Multiply, Divide, Transfer}
-use Rattle.isa.specs.declared.outcome.Outcome.{Outcome}
 use Rattle.units.specs.declared.job.Job.{Job}
 use Rattle.units.specs.declared.job.Offer.{Offer}
 use Rattle.units.specs.Jobs.{word_class, job_outcome}
 use Rattle.units.specs.Meaning.{Held, Fell, Holds, Joined, Taken, room_in}
 use Rattle.units.proofs.Classed.{classed_outcome}
 use Rattle.single.specs.declared.Single.{Single}
-use Rattle.single.specs.Single.{serves_plain, free, held_in, with_outcome, offer_in, room_beside, single, Sound, taken_in}
+use Rattle.single.specs.Single.{serves_plain, held_in, with_outcome, offer_in, room_beside, single, Sound}
 
 abbrev with : Option Job → Single
 with o = record { job = o }

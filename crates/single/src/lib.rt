@@ -1,4 +1,6 @@
 // A unit as an outside designer writes one: the plain class, a single job, offered at once.
+#![tactic(auto)]
+
 ghost use Rattle.std.specs.Prelude.{◌≡◌, None};
 ghost use Rattle.single.specs.Single.{single, Sound, taken_in};
 ghost use Rattle.units.specs.Meaning.{room_for, take_answer};

@@ -1,6 +1,6 @@
 -- A list with a function applied to its first elements: how far a loop that maps in place has come.
 -- Assumes nothing.
-use Rattle.std.proofs.Common.{◌≡◌, ℕ, zero, suc, ◌+◌, ◌<◌, ◌≤◌, List, [], ◌∷◌, map, length, get_or, set, sym, refl, ap, ◌∙◌, suc-le-suc, zero-le, add-one, arith}
+use Rattle.std.proofs.Common.{◌≡◌, ℕ, zero, suc, ◌+◌, ◌<◌, ◌≤◌, List, [], ◌∷◌, map, length, get_or, set, refl, ap, ◌∙◌, add-one, arith}
 
 module _ {X : Type 0} (f : X → X) where
   abbrev pub firsts : ℕ → List X → List X

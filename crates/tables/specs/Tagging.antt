@@ -1,6 +1,6 @@
 -- Register tags: the youngest entry in flight that will write a register.
 -- Assumes nothing.
-use Rattle.std.specs.Prelude.{ℕ, Bool, true, false, cond, replicate, Some, None, Option, ◌==◌, slice_index_or, slice_set}
+use Rattle.std.specs.Prelude.{ℕ, Bool, false, cond, replicate, Some, None, Option, ◌==◌, slice_index_or, slice_set}
 use Rattle.tables.specs.declared.tags.Tags.{Tags}
 
 abbrev pub no_tags : Tags

@@ -7,6 +7,8 @@
 //   station   one instruction that waits for its operands, and what an operand is
 //   stations  the eight reservation stations
 //   tags      which entry will write a register
+#![tactic(auto)]
+
 pub mod buffer;
 pub mod entry;
 mod reads;

@@ -1,4 +1,6 @@
 // Runs a program on the core, or on the sequential machine, and writes what its instructions did.
+#![tactic(auto)]
+
 mod counts;
 mod engine;
 mod session;

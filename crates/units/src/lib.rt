@@ -3,6 +3,8 @@
 //   job   what a unit is given, and what it gives back
 //   unit  the meaning of a unit, as a trait
 //   runs  what that meaning promises over many calls
+#![tactic(auto)]
+
 pub mod job;
 pub mod runs;
 pub mod unit;

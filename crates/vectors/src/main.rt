@@ -1,4 +1,6 @@
 // Reads words and writes what each is in assembler syntax, or that it is illegal.
+#![tactic(auto)]
+
 use anyhow::anyhow;
 use console::program::parse_program;
 use report::hex::Hex8;

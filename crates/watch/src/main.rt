@@ -1,4 +1,6 @@
 // Pushes jobs through a named unit, step by step, and writes what it holds, what it offers and when that leaves.
+#![tactic(auto)]
+
 use anyhow::anyhow;
 use console::numbers::parse_number;
 use divider::Divider;

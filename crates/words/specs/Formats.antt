@@ -1,6 +1,6 @@
 -- The formats: which registers each holds, where the bits of its immediate stand, and which immediates it can hold.
 -- Assumes nothing.
-use Rattle.std.specs.Prelude.{ℕ, ◌+◌, ◌-◌, ◌*◌, ◌/◌, ◌%◌, ◌^◌, ◌<◌, Bool, true, false, cond, ◌&&◌, ℤ, pos, ◌-ℤ◌, neg_ℤ, ◌==◌, int_le, int_lt, nat_lt}
+use Rattle.std.specs.Prelude.{ℕ, ◌+◌, ◌*◌, ◌/◌, ◌%◌, ◌^◌, Bool, true, false, cond, ◌&&◌, ℤ, pos, ◌-ℤ◌, neg_ℤ, ◌==◌, int_le, int_lt, nat_lt}
 use Rattle.std.proofs.Common.{of_z}
 use Rattle.std.specs.Int.{w32}
 use Rattle.isa.specs.declared.instruction.Instruction.{Instruction}

@@ -3,6 +3,8 @@
 //   fields   a word as the six fields that every format is cut from
 //   table    the row of each operation in the manual's tables
 //   formats  what each of the seven formats holds of an instruction, and where
+#![tactic(auto)]
+
 ghost use Rattle.std.specs.Prelude.{◌≡◌, IfOk, Ok};
 ghost use Rattle.words.specs.Words.{read_word, write_word, OneWord, OneInstruction};
 

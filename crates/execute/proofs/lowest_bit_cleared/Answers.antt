@@ -1,5 +1,5 @@
 -- All ones but the lowest bit leave that bit out: the half is below 2 ^ 31, and so is kept whole.
-use Rattle.std.proofs.Common.{◌≡◌, ◌*◌, ◌/◌, ◌%◌, ◌^◌, ◌∙◌, arith}
+use Rattle.std.proofs.Common.{◌≡◌, ◌/◌, ◌%◌, ◌^◌, ◌∙◌, arith}
 use lib.Bits.{bit_and}
 use Rattle.std.proofs.lemmas.Nat.{and_comm, and_mask, and_mod, and_shr}
 use Rattle.execute.proofs.lowest_bit_cleared.Goals as goal

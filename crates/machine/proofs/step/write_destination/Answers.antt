@@ -1,6 +1,5 @@
-use Rattle.std.proofs.Common.{sym, arith, rules}
+use Rattle.std.proofs.Common.{rules}
 use Rattle.std.proofs.lemmas.List.{set_past}
-use Rattle.std.proofs.lemmas.Bool.Decides.{nat_tests}
 use Rattle.machine.proofs.step.write_destination.Goals as goal
 
 pub returns-else-index-registers : goal.returns-else-index-registers

@@ -1,5 +1,4 @@
-use Rattle.std.proofs.Common.{set, None, ap, ◌∙◌}
-use Rattle.tables.specs.declared.stations.Stations.{Stations}
+use Rattle.std.proofs.Common.{None}
 use Rattle.tables.specs.Waiting.{freed_place}
 use Rattle.tables.proofs.Firsts.{firsts_more, firsts_all}
 use Rattle.tables.proofs.stations.free_all.Goals as goal
