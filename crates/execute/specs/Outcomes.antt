@@ -1,6 +1,6 @@
 -- What a classed instruction works out from its address pc and the values a and b of its source registers.
 -- Registers and addresses are numbers below 2 ^ 32; a result is taken modulo 2 ^ 32.
--- Of the library: `to_z w32` reads 32 bits as two's complement, `quot_z` and `rem_z` are the quotient rounded
+-- Of the library: `to_z w32` reads 32 bits as two's complement, `int_div` and `int_rem` are the quotient rounded
 -- toward zero and the remainder with the dividend's sign, and `shr_z x d` is x divided by d, rounded down.
 -- Assumes nothing.
 use Rattle.std.specs.Prelude.{ℕ, suc, ◌+◌, ◌-◌, ◌*◌, ◌/◌, ◌%◌, ◌^◌, Bool, true, false, cond, not, ℤ, pos, negsuc, ◌-ℤ◌, Some, None, Option, ◌==◌, bit_and, bit_or, bit_xor, int_div, int_lt, int_rem, nat_lt}

@@ -2,7 +2,7 @@
 -- Assumes nothing.
 use Rattle.std.specs.Prelude.{◌≡◌, ℕ, ◌+◌, ◌≤◌, max, cond, ◌≢◌, List, [], ◌∷◌, map, length, Some, None, Option, ◌==◌, refl}
 use Rattle.std.proofs.Common.{sym, subst, arith}
-use Rattle.std.specs.List.{AllByRecursion as All}
+use Rattle.std.specs.List.{AllByRecursion}
 use Rattle.units.specs.declared.job.Job.{Job}
 use Rattle.units.specs.Meaning.{Held, Fell, Holds}
 use Rattle.pipelines.specs.declared.queue.Timed.{Timed}
@@ -54,19 +54,19 @@ module _ (L : ℕ) where
       both (Fell k) (x.job.tag == t) (refl, lower)
       (falls k (due_after L p x) (due_after L p' (ticked L x)) one lower xs t)
 
-  pub none_held : (p : ℕ) (xs : List Timed) (t : ℕ) → All (λ y. y.job.tag ≢ t) xs → held_from L p xs t ≡ None
+  pub none_held : (p : ℕ) (xs : List Timed) (t : ℕ) → AllByRecursion (λ y. y.job.tag ≢ t) xs → held_from L p xs t ≡ None
   none_held p [] t h = refl
   none_held p (x ∷ xs) t h =
       by_tag (λ o. o ≡ None) p x xs t (λ e. absurd (h.0 e)) (λ _. none_held (due_after L p x) xs t h.1)
 
-  pub none_tagged : (p : ℕ) (xs : List Timed) (t : ℕ) → held_from L p xs t ≡ None → All (λ y. y.job.tag ≢ t) xs
+  pub none_tagged : (p : ℕ) (xs : List Timed) (t : ℕ) → held_from L p xs t ≡ None → AllByRecursion (λ y. y.job.tag ≢ t) xs
   none_tagged p [] t = λ h. tt
   none_tagged p (x ∷ xs) t =
-      by_tag (λ o. o ≡ None → All (λ y. y.job.tag ≢ t) (x ∷ xs)) p x xs t
+      by_tag (λ o. o ≡ None → AllByRecursion (λ y. y.job.tag ≢ t) (x ∷ xs)) p x xs t
       (λ _ h. let z : ◌≡◌ {A = ℕ} 0 1 = cc in absurd (omega arith))
       (λ ne h. (ne, none_tagged (due_after L p x) xs t h))
 
-  pub joins : (p : ℕ) (xs : List Timed) (j : Job) → All (λ y. y.job.tag ≢ j.tag) xs
+  pub joins : (p : ℕ) (xs : List Timed) (j : Job) → AllByRecursion (λ y. y.job.tag ≢ j.tag) xs
       → Holds j (held_from L p (pushed j xs) j.tag)
   joins p [] j h = by_tag (Holds j) p (fresh j) [] j.tag (λ _. refl) (λ ne. absurd (ne refl))
   joins p (x ∷ xs) j h =

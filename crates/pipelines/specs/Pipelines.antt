@@ -1,7 +1,7 @@
 -- What a pipeline means as a unit: a queue of timed jobs, by its latency L, its capacity N and the classes that it serves.
 -- Assumes nothing.
 use Rattle.std.specs.Prelude.{◌≡◌, ℕ, ◌+◌, ◌-◌, ◌≤◌, max, Bool, cond, ◌&&◌, ◌≢◌, List, [], ◌∷◌, length, Some, None, Option, ◌==◌, nat_lt}
-use Rattle.std.specs.List.{AllByRecursion as All}
+use Rattle.std.specs.List.{AllByRecursion}
 use Rattle.isa.specs.declared.operation.Class.{Class}
 use Rattle.isa.specs.declared.outcome.Outcome.{Outcome}
 use Rattle.units.specs.declared.job.Job.{Job}
@@ -56,7 +56,7 @@ taken N serves j xs = cond (room_in (room_left N serves xs) (word_class j.word))
 -- no two jobs have one tag
 abbrev pub Apart : List Timed → Type 0
 Apart [] = Unit {0}
-Apart (x ∷ xs) = All (λ y. y.job.tag ≢ x.job.tag) xs × Apart xs
+Apart (x ∷ xs) = AllByRecursion (λ y. y.job.tag ≢ x.job.tag) xs × Apart xs
 
 -- a job that a unit works out
 abbrev pub Worked : Timed → Type 0
@@ -65,5 +65,5 @@ Worked x = (o : Outcome) × (job_outcome x.job ≡ Some o)
 -- what holds of a queue since the last clear, where no tag was taken while it was held
 pub record Sound (N : ℕ) (xs : List Timed) : Type 0 where
   pub few : length xs ≤ N
-  pub worked : All Worked xs
+  pub worked : AllByRecursion Worked xs
   pub apart : Apart xs

@@ -2,7 +2,7 @@
 -- Assumes nothing.
 use Rattle.std.specs.Prelude.{◌≡◌, ℕ, ◌+◌, ◌<◌, ◌≤◌, Bool, true, false, cond, ◌&&◌, ◌≢◌, List, [], ◌∷◌, map, length, Some, None, Option, ◌==◌, refl}
 use Rattle.std.proofs.Common.{sym, subst, ◌∙◌, arith}
-use Rattle.std.specs.List.{AllByRecursion as All}
+use Rattle.std.specs.List.{AllByRecursion}
 use Rattle.std.proofs.lemmas.List.{length-map, length_push}
 use Rattle.std.proofs.ByRecursion.{All-map, All-push, All-weaker}
 use Rattle.isa.specs.declared.outcome.Outcome.{Outcome}
@@ -26,7 +26,7 @@ module _ (L : ℕ) (x : Timed) (xs : List Timed) (t : ℕ) where
       (falls L 1 (due_after L 0 x) (due_after L 0 (ticked L x)) (omega arith) lower xs t)
 
   -- the oldest leaves, and no other job has its tag
-  leaves : All (λ y. y.job.tag ≢ x.job.tag) xs
+  leaves : AllByRecursion (λ y. y.job.tag ≢ x.job.tag) xs
       → Moved true (x.job.tag == t) (held_from L 0 (x ∷ xs) t) (held_from L 0 (map (ticked L) xs) t)
   leaves others =
       by_eqb
@@ -36,7 +36,7 @@ module _ (L : ℕ) (x : Timed) (xs : List Timed) (t : ℕ) where
       (All-map (λ y. y.job.tag ≢ t) (ticked L) xs (All-weaker _ (λ y. y.job.tag ≢ t) (λ y ne q. ne (q ∙ sym e)) xs others)))
       (λ _. falls L 1 (due_after L 0 x) 0 (omega arith) (omega arith) xs t)
 
-  accepted_moves : Worked x → All (λ y. y.job.tag ≢ x.job.tag) xs
+  accepted_moves : Worked x → AllByRecursion (λ y. y.job.tag ≢ x.job.tag) xs
       → Moved true (offers_tag (offered L (x ∷ xs)) t) (held_from L 0 (x ∷ xs) t) (held_from L 0 (stepped L true (x ∷ xs)) t)
   accepted_moves w others =
       by_leb
@@ -46,7 +46,7 @@ module _ (L : ℕ) (x : Timed) (xs : List Timed) (t : ℕ) where
       (sym w.1) (leaves others))
       (λ early. waits early)
 
-pub moves : (L : ℕ) (accepted : Bool) (xs : List Timed) → All Worked xs → Apart xs → (t : ℕ)
+pub moves : (L : ℕ) (accepted : Bool) (xs : List Timed) → AllByRecursion Worked xs → Apart xs → (t : ℕ)
     → Moved accepted (offers_tag (offered L xs) t) (held_from L 0 xs t) (held_from L 0 (stepped L accepted xs) t)
 moves L false xs w a t = falls L 0 0 0 (omega arith) (omega arith) xs t
 moves L true [] w a t = tt
@@ -78,13 +78,13 @@ sound-stepped L N accepted xs s =
     let leaves = accepted && ready L xs in
     sound-ticked L N (cond leaves (rest xs) xs) (staying N leaves xs s)
 
-apart-pushed : (j : Job) (xs : List Timed) → All (λ y. y.job.tag ≢ j.tag) xs → Apart xs → Apart (pushed j xs)
+apart-pushed : (j : Job) (xs : List Timed) → AllByRecursion (λ y. y.job.tag ≢ j.tag) xs → Apart xs → Apart (pushed j xs)
 apart-pushed j [] n a = (tt, tt)
 apart-pushed j (x ∷ xs) n a =
     (All-push (λ y. y.job.tag ≢ x.job.tag) xs (fresh j) a.0 (λ e. n.0 (sym e)), apart-pushed j xs n.1 a.1)
 
 pub sound-pushed : (N : ℕ) (j : Job) (xs : List Timed) → length xs < N → (o : Outcome) → job_outcome j ≡ Some o
-    → All (λ y. y.job.tag ≢ j.tag) xs → Sound N xs → Sound N (pushed j xs)
+    → AllByRecursion (λ y. y.job.tag ≢ j.tag) xs → Sound N xs → Sound N (pushed j xs)
 sound-pushed N j xs room o e n s = record {
   few = omega (arith, length_push xs (fresh j));
   worked = All-push Worked xs (fresh j) s.worked (o, e);

@@ -1,6 +1,6 @@
 // Standard input, line by line: the program's words, and then the calls.
-use anyhow::anyhow;
 use past::calls::{Call, Line, parse_call, parse_first};
+use report::stops::Stop;
 use std::io;
 use std::io::{BufRead, BufReader, Split, Stdin};
 
@@ -25,7 +25,7 @@ impl Input {
     }
 
     // The words, and the call that ends them, if one does.
-    pub(crate) fn words(&mut self, rt: &HostRuntime) -> anyhow::Result<(Vec<u32>, Option<Call>)> {
+    pub(crate) fn words(&mut self, rt: &HostRuntime) -> Result<(Vec<u32>, Option<Call>), Stop> {
         let mut words = Vec::new(rt.alloc());
         for _ in 0..u64::MAX {
             let Some(line) = self.next_line()? else {
@@ -36,14 +36,17 @@ impl Input {
                 Ok(Line::Word(word)) => words.push(word)?,
                 Ok(Line::Call(call)) => return Ok((words, Some(call))),
                 Err(fault) => {
-                    return Err(anyhow!(format!(in rt.alloc(); "line {}: {fault}", self.number)?));
+                    return Err(Stop::Said(format!(in rt.alloc();
+                        "line {}: {fault}",
+                        self.number
+                    )?));
                 }
             }
         }
         Ok((words, None))
     }
 
-    pub(crate) fn next_call(&mut self, rt: &HostRuntime) -> anyhow::Result<Option<Call>> {
+    pub(crate) fn next_call(&mut self, rt: &HostRuntime) -> Result<Option<Call>, Stop> {
         for _ in 0..u64::MAX {
             let Some(line) = self.next_line()? else {
                 break;
@@ -52,7 +55,10 @@ impl Input {
                 Ok(None) => {}
                 Ok(call) => return Ok(call),
                 Err(fault) => {
-                    return Err(anyhow!(format!(in rt.alloc(); "line {}: {fault}", self.number)?));
+                    return Err(Stop::Said(format!(in rt.alloc();
+                        "line {}: {fault}",
+                        self.number
+                    )?));
                 }
             }
         }

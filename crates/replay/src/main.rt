@@ -8,7 +8,6 @@ mod settings;
 
 use crate::input::Input;
 use crate::settings::{Kind, Settings, settings_of};
-use anyhow::anyhow;
 use divider::Divider;
 use join::{Join, pile};
 use past::answers::Answer;
@@ -17,6 +16,7 @@ use pipelines::multiplier::Multiplier;
 use pipelines::plain::Plain;
 use report::hex::Hex8;
 use report::loads::RefusedLoad;
+use report::stops::Stop;
 use scheduler::running::Running;
 use scheduler::stopped::Stopped;
 use std::io;
@@ -68,7 +68,7 @@ fn answer_all<U: Unit>(
     first: Option<Call>,
     input: &mut Input,
     page: &mut String,
-) -> anyhow::Result<()> {
+) -> Result<(), Stop> {
     let mut next = first;
     // no input is longer
     for _ in 0..u64::MAX {
@@ -84,7 +84,7 @@ fn answer_all<U: Unit>(
     Ok(())
 }
 
-fn write_state<U: Unit>(core: &Running<U>, page: &mut String) -> anyhow::Result<()> {
+fn write_state<U: Unit>(core: &Running<U>, page: &mut String) -> Result<(), Stop> {
     let machine = core.machine();
     let trap = machine.trap_state();
     writeln!(
@@ -106,7 +106,7 @@ fn write_state<U: Unit>(core: &Running<U>, page: &mut String) -> anyhow::Result<
     Ok(())
 }
 
-fn replay<U: Unit + Drop>(rt: &HostRuntime, settings: Settings, unit: U) -> anyhow::Result<()> {
+fn replay<U: Unit + Drop>(rt: &HostRuntime, settings: Settings, unit: U) -> Result<(), Stop> {
     let mut input = Input::new(rt)?;
     let (words, first) = input.words(rt)?;
     let mut stopped = Stopped::new(unit);
@@ -117,7 +117,7 @@ fn replay<U: Unit + Drop>(rt: &HostRuntime, settings: Settings, unit: U) -> anyh
             pc: settings.pc,
             vector: settings.vector,
         };
-        return Err(anyhow!(format!(in rt.alloc(); "{refused}")?));
+        return Err(Stop::Said(format!(in rt.alloc(); "{refused}")?));
     }
     let mut core = stopped.start();
     let mut page = String::new(rt.alloc());
@@ -130,7 +130,7 @@ fn replay<U: Unit + Drop>(rt: &HostRuntime, settings: Settings, unit: U) -> anyh
     answered
 }
 
-fn run(rt: &HostRuntime) -> anyhow::Result<()> {
+fn run(rt: &HostRuntime) -> Result<(), Stop> {
     let settings = settings_of(rt)?;
     match settings.kind {
         Kind::Plain => replay(rt, settings, Plain::new()),

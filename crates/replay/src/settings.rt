@@ -1,7 +1,7 @@
 // The options, from the argument list.
-use anyhow::anyhow;
 use console::numbers::NumberFault;
 use options::addresses::parse_address;
+use report::stops::Stop;
 use std::alloc::AllocError;
 use std::{env, fmt};
 
@@ -122,7 +122,7 @@ fn argument_line(
     }
 }
 
-pub(crate) fn settings_of(rt: &HostRuntime) -> anyhow::Result<Settings> {
+pub(crate) fn settings_of(rt: &HostRuntime) -> Result<Settings, Stop> {
     let mut settings = Settings {
         pc: 0,
         vector: 0,
@@ -135,12 +135,12 @@ pub(crate) fn settings_of(rt: &HostRuntime) -> anyhow::Result<Settings> {
     for (place, text) in texts.iter().enumerate().skip(1) {
         match settings.take(waiting, text.as_str()) {
             Ok(next) => waiting = next,
-            Err(fault) => return Err(anyhow!(argument_line(rt, texts, place, fault)?)),
+            Err(fault) => return Err(Stop::Said(argument_line(rt, texts, place, fault)?)),
         }
     }
     if waiting.is_some() {
         let last = texts.len().saturating_sub(1);
-        return Err(anyhow!(argument_line(rt, texts, last, SettingFault::NoValue)?));
+        return Err(Stop::Said(argument_line(rt, texts, last, SettingFault::NoValue)?));
     }
     Ok(settings)
 }

@@ -1,3 +1,4 @@
 pub mod Hex
 pub mod RecordLines
 pub mod LoadLines
+pub mod StopLines

@@ -10,7 +10,6 @@ mod table;
 use crate::engine::{Engine, OutOfOrder, Sequential};
 use crate::session::Session;
 use crate::summary::Summary;
-use anyhow::anyhow;
 use console::program::parse_program;
 use divider::Divider;
 use join::{Join, pile};
@@ -22,6 +21,7 @@ use pipelines::plain::Plain;
 use refusal::LoadFault;
 use report::loads::RefusedLoad;
 use report::records::RecordLine;
+use report::stops::Stop;
 use scheduler::running::Running;
 use scheduler::stopped::Stopped;
 use std::alloc::AllocError;
@@ -56,21 +56,21 @@ fn argument_line(
     }
 }
 
-fn options_of(rt: &HostRuntime) -> anyhow::Result<Options> {
+fn options_of(rt: &HostRuntime) -> Result<Options, Stop> {
     // the first is the program's own name
     let texts: Vec<String> = env::args(rt)?.skip(1).collect(rt.alloc())?;
     match parse_options(rt.alloc(), texts.as_slice()) {
         Ok(options) => Ok(options),
-        Err(bad) => Err(anyhow!(argument_line(rt, texts.as_slice(), bad)?)),
+        Err(bad) => Err(Stop::Said(argument_line(rt, texts.as_slice(), bad)?)),
     }
 }
 
-fn program_of(rt: &HostRuntime) -> anyhow::Result<Vec<u32>> {
+fn program_of(rt: &HostRuntime) -> Result<Vec<u32>, Stop> {
     let mut text = Vec::new(rt.alloc());
     rt.stdin().read_to_end(&mut text)?;
     match parse_program(rt.alloc(), text.as_slice()) {
         Ok(words) => Ok(words),
-        Err(fault) => Err(anyhow!(format!(in rt.alloc(); "{fault}")?)),
+        Err(fault) => Err(Stop::Said(format!(in rt.alloc(); "{fault}")?)),
     }
 }
 
@@ -89,19 +89,19 @@ fn refused_line(
     format!(in rt.alloc(); "{refused}")
 }
 
-fn machine_of(rt: &HostRuntime, options: &Options, words: &[u32]) -> anyhow::Result<Machine> {
+fn machine_of(rt: &HostRuntime, options: &Options, words: &[u32]) -> Result<Machine, Stop> {
     let mut machine = Machine::new();
     match machine.load(words, options.pc, options.vector) {
         Ok(()) => Ok(machine),
-        Err(fault) => Err(anyhow!(refused_line(rt, fault, words.len(), options)?)),
+        Err(fault) => Err(Stop::Said(refused_line(rt, fault, words.len(), options)?)),
     }
 }
 
-fn core_of(rt: &HostRuntime, options: &Options, words: &[u32]) -> anyhow::Result<Running<Units>> {
+fn core_of(rt: &HostRuntime, options: &Options, words: &[u32]) -> Result<Running<Units>, Stop> {
     let mut core = Stopped::new(pile(Plain::new(), Multiplier::new(), Divider::new()));
     match core.load(words, options.pc, options.vector) {
         Ok(()) => Ok(core.start()),
-        Err(fault) => Err(anyhow!(refused_line(rt, fault, words.len(), options)?)),
+        Err(fault) => Err(Stop::Said(refused_line(rt, fault, words.len(), options)?)),
     }
 }
 
@@ -111,7 +111,7 @@ fn push_record(
     report: Report,
     number: u64,
     record: Record,
-) -> anyhow::Result<()> {
+) -> Result<(), Stop> {
     match report {
         Report::Summary => {}
         Report::Records => writeln!(page, "{}", RecordLine(record))?,
@@ -127,7 +127,7 @@ fn run_session<E: Engine>(
     budget: u64,
     session: &mut Session<E>,
     page: &mut String,
-) -> anyhow::Result<()> {
+) -> Result<(), Stop> {
     for _ in 0..budget {
         if session.retired >= options.retire {
             break;
@@ -168,7 +168,7 @@ fn run_engine<E: Engine + Drop>(
     options: &Options,
     wait: u64,
     engine: E,
-) -> anyhow::Result<()> {
+) -> Result<(), Stop> {
     let budget = options
         .budget
         .unwrap_or(options.retire.saturating_mul(wait));
@@ -180,7 +180,7 @@ fn run_engine<E: Engine + Drop>(
     Ok(())
 }
 
-fn run(rt: &HostRuntime) -> anyhow::Result<()> {
+fn run(rt: &HostRuntime) -> Result<(), Stop> {
     let options = options_of(rt)?;
     let words = program_of(rt)?;
     let words = words.as_slice();

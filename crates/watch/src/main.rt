@@ -1,7 +1,6 @@
 // Pushes jobs through a named unit, step by step, and writes what it holds, what it offers and when that leaves.
 #![tactic(auto)]
 
-use anyhow::anyhow;
 use console::numbers::parse_number;
 use divider::Divider;
 use isa::outcome::Outcome;
@@ -10,6 +9,7 @@ use pipelines::multiplier::Multiplier;
 use pipelines::plain::Plain;
 use refusal::NoRoom;
 use report::hex::Hex8;
+use report::stops::Stop;
 use single::Single;
 use std::io::Read;
 use std::process::ExitCode;
@@ -70,14 +70,14 @@ fn parse_word(text: &str) -> Option<u32> {
     }
 }
 
-fn parse_jobs(rt: &HostRuntime, text: &str) -> anyhow::Result<Vec<Job>> {
+fn parse_jobs(rt: &HostRuntime, text: &str) -> Result<Vec<Job>, Stop> {
     let mut jobs = Vec::new(rt.alloc());
     for line in text.lines() {
         match parse_line(line) {
             Line::Blank => {}
             Line::Job(job) => jobs.push(job)?,
             Line::Bad => {
-                return Err(anyhow!(format!(in rt.alloc();
+                return Err(Stop::Said(format!(in rt.alloc();
                     "`{line}` is no job: tag, word, pc, a, b"
                 )?));
             }
@@ -249,9 +249,9 @@ fn watch_named(rt: &HostRuntime, name: &str, jobs: &[Job]) -> io::Result<bool> {
     Ok(true)
 }
 
-fn run(rt: &HostRuntime) -> anyhow::Result<()> {
+fn run(rt: &HostRuntime) -> Result<(), Stop> {
     let Some(name) = env::args(rt)?.nth(1) else {
-        return Err(anyhow!(USAGE));
+        return Err(Stop::Said(String::from_str(rt.alloc(), USAGE)?));
     };
     let mut text = String::new(rt.alloc());
     rt.stdin().read_to_string(&mut text)?;
@@ -259,7 +259,7 @@ fn run(rt: &HostRuntime) -> anyhow::Result<()> {
     if watch_named(rt, name.as_str(), jobs.as_slice())? {
         Ok(())
     } else {
-        Err(anyhow!(USAGE))
+        Err(Stop::Said(String::from_str(rt.alloc(), USAGE)?))
     }
 }
 
