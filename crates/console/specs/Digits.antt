@@ -1,4 +1,4 @@
--- Digits of a base, by std's digitValue: 0 to 9, then letters of either case from 10 on, and 36 for any other byte.
+-- Digits of a base, by std's `digit_value`: 0 to 9, then letters of either case from 10 on, and 36 for any other byte.
 -- Assumes nothing.
 use Rattle.std.specs.Prelude.{ℕ, ◌^◌, Bool, cond, ◌&&◌, List, [], ◌∷◌, drop, Some, None, Option, ◌==◌, nat_lt, slice_index}
 use Rattle.std.specs.Str.Parse.{digits_value}

@@ -1,5 +1,5 @@
 -- An instruction in assembler syntax: the mnemonic, then the operands.
--- Of the library: `codes` is a text's bytes, `decimal` a number's digits, and `signed` an integer's, after `-` if it is negative.
+-- Of the library: `codes` is a text's bytes, `decimal` a number's digits, and `signed_decimal` an integer's, after `-` if it is negative.
 -- Assumes nothing.
 use Rattle.std.specs.Prelude.{ℕ, List, [], ◌∷◌, ◌++◌, ℤ, codes, decimal}
 use Rattle.std.specs.Fmt.{signed_decimal}

@@ -1,7 +1,7 @@
 // Why a program stops, in a line for people.
-ghost use Rattle.std.specs.Prelude.{◌≡◌};
-ghost use Rattle.report.specs.declared.stops.Stop.TheVariants.{Failed};
-ghost use Rattle.report.specs.StopLines.{stop_line, IsOutOfMemory};
+ghost use Rattle.std.specs.Prelude.{◌≡◌, alloc_error};
+ghost use Rattle.report.specs.declared.stops.Stop.TheVariants.{NoMemory, Failed};
+ghost use Rattle.report.specs.StopLines.{stop_line};
 
 use std::alloc::{AllocError, AllocFailed};
 use std::{fmt, io};
@@ -10,7 +10,8 @@ use std::{fmt, io};
 pub enum Stop {
     // the line, whole
     Said(String),
-    // a read, a write or memory
+    NoMemory(AllocError),
+    // a read or a write
     Failed(io::Error),
 }
 
@@ -20,6 +21,7 @@ impl fmt::Display for Stop {
     fn fmt<W: fmt::Write>(&self, f: &mut fmt::Formatter<W>) -> fmt::Result {
         match self {
             Stop::Said(line) => f.write_str(line.as_str()),
+            Stop::NoMemory(error) => write!(f, "{error}"),
             Stop::Failed(error) => write!(f, "{error}"),
         }
     }
@@ -34,17 +36,17 @@ impl From<io::Error> for Stop {
 }
 
 impl From<AllocError> for Stop {
-    ghost from_gives = { λ _ stop. IsOutOfMemory stop };
+    ghost from_gives = { λ error stop. stop ≡ NoMemory error };
 
-    fn from(error: AllocError) -> Stop {
-        Stop::Failed(io::Error::from(error))
+    fn from(refused: AllocError) -> Stop {
+        Stop::NoMemory(refused)
     }
 }
 
 impl<T: Drop> From<AllocFailed<T>> for Stop {
-    ghost from_gives = { λ _ stop. IsOutOfMemory stop };
+    ghost from_gives = { λ _ stop. stop ≡ NoMemory alloc_error };
 
     fn from(failed: AllocFailed<T>) -> Stop {
-        Stop::Failed(io::Error::from(failed))
+        Stop::NoMemory(AllocError::from(failed))
     }
 }

@@ -1,7 +1,7 @@
-#![tactic(auto)]
-
 // The worked schedules, as tests of the core: what is refused when, in which cycle an instruction retires,
 // what a budget suffices for, and an interrupt at every place of a program.
+#![tactic(auto)]
+
 #[cfg(test)]
 mod cores {
     use refusal::LoadFault;
