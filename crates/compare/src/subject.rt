@@ -2,6 +2,8 @@
 ghost use Rattle.std.specs.Prelude.{◌≡◌, Some};
 ghost use Rattle.machine.specs.Classes.{serves, every_class};
 ghost use Rattle.machine.specs.Step.{step};
+ghost use Rattle.law.specs.Calls.{LineCall};
+ghost use Rattle.compare.specs.Subjects.{CyclesTo, LinedCycles};
 
 use machine::classes::Classes;
 use machine::record::Record;
@@ -26,28 +28,46 @@ impl Subject for Machine {
         Some(self.step(Classes::ALL, line))
     }
 
-    fn machine(&self) -> &Machine {
+    fn machine(&self) -> &Machine
+        ensures { result.now ≡ self.now }
+    {
         self
     }
 }
 
+fn set_line<U: Unit>(core: &mut Running<U>, line: bool)
+    ensures { LineCall U.Unit.means U.Unit.sound line core.old.state core.new.state }
+{
+    if line {
+        core.raise_line();
+    } else {
+        core.drop_line();
+    }
+}
+
+fn next_record<U: Unit>(core: &mut Running<U>) -> Option<Record>
+    ensures { CyclesTo U.Unit.means U.Unit.sound 265 core.old.state result core.new.state }
+{
+    for _cycle in 0..LONGEST_WAIT {
+        let record = core.cycle();
+        if record.is_some() {
+            return record;
+        }
+    }
+    None
+}
+
 impl<U: Unit> Subject for Running<U> {
-    fn retirement(&mut self, line: bool) -> Option<Record> {
-        if line {
-            self.raise_line();
-        } else {
-            self.drop_line();
-        }
-        for _ in 0..LONGEST_WAIT {
-            let record = self.cycle();
-            if record.is_some() {
-                return record;
-            }
-        }
-        None
+    fn retirement(&mut self, line: bool) -> Option<Record>
+        ensures { LinedCycles U.Unit.means U.Unit.sound 265 line self.old.state result self.new.state }
+    {
+        set_line(self, line);
+        next_record(self)
     }
 
-    fn machine(&self) -> &Machine {
+    fn machine(&self) -> &Machine
+        ensures { result.now ≡ self.now.state.core.machine }
+    {
         Running::machine(self)
     }
 }

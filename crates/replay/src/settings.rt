@@ -1,4 +1,7 @@
 // The options, from the argument list.
+ghost use Rattle.std.specs.Prelude.{◌≡◌};
+ghost use Rattle.replay.specs.declared.settings.SettingFault.TheVariants.{BadNumber};
+
 use console::numbers::NumberFault;
 use options::addresses::parse_address;
 use report::stops::Stop;
@@ -49,6 +52,8 @@ impl fmt::Display for SettingFault {
 }
 
 impl From<NumberFault> for SettingFault {
+    ghost from_gives = { λ number setting. setting ≡ BadNumber number };
+
     fn from(fault: NumberFault) -> SettingFault {
         SettingFault::BadNumber(fault)
     }
