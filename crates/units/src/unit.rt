@@ -1,6 +1,7 @@
 // The meaning of a functional unit: what the core above relies on, and all that it relies on.
-ghost use Rattle.std.specs.Prelude.{◌≡◌, ℕ, ◌≤◌};
-ghost use Rattle.units.specs.Meaning.{UnitModel, Dues, Tags, Offers, Rooms, EmptyRooms, Same, room_for, take_answer, Taken, Stepped, Empty};
+ghost use Rattle.std.specs.Prelude.{◌≡◌};
+ghost use Rattle.units.specs.Calls.{Keeps};
+ghost use Rattle.units.specs.Meaning.{UnitModel, Same, room_for, take_answer, Taken, Stepped, Empty};
 
 use crate::job::{Job, Offer};
 use isa::operation::Class;
@@ -32,15 +33,6 @@ pub trait Unit {
         ensures empty { Empty means self.new }
         ensures sound { sound self.new };
 
-    ghost stays: { (u : Self) → 1 ≤ means.stay u };
-
-    ghost dues: { (u : Self) → sound u → Dues means u };
-
-    ghost tags: { (u : Self) → sound u → Tags means u };
-
-    ghost offers: { (u : Self) → sound u → Offers means u };
-
-    ghost rooms: { (u : Self) → Rooms means u };
-
-    ghost empty_rooms: { (u : Self) → sound u → EmptyRooms means u };
+    // what every unit keeps
+    ghost laws: { Keeps means sound };
 }
