@@ -10,8 +10,8 @@ use Rattle.law.specs.declared.state.Core.{Core}
 use Rattle.law.specs.declared.state.Running.{Running}
 use Rattle.law.specs.declared.state.Stopped.{Stopped}
 use Rattle.law.specs.Calls.{RunCall, done, spent, idle, retires}
-use Rattle.law.specs.Pasts.{Event, issue, dispatch, complete, retire, cycle, run, raise, drop, Past, started, issued, dispatched, completed, retired, cycled, ran, raised, dropped}
-use Rattle.law.specs.Laws.{Fed, reports, steps_of, feed, fed, Truthful, AllTruthful, wait, cycle_calls, reported, AllRunsKept, at_start, LawOfEveryPast}
+use Rattle.law.specs.Pasts.{Event, issue, dispatch, complete, retire, cycle, run, raise, drop, EventCall, Past, started, called}
+use Rattle.law.specs.Laws.{Fed, reports, steps_of, feed, fed, Truthful, AllTruthful, wait, cycle_calls, reported, RunKept, AllRunsKept, at_start, LawOfEveryPast}
 use Rattle.law.proofs.Tied.{Tied}
 use Rattle.law.proofs.Starting.{start_ties}
 use Rattle.law.proofs.Rank.{done as ready, held, waiting, empty, within_one, within-wait}
@@ -89,6 +89,119 @@ module _ {A : Type 0} (m : UnitModel A) (sound : A → Type 0) (keeps : Keeps m 
       later n (suc n) k' (omega arith) (run_soon (suc wanted) budget cycles r n l k' one.0 rest none (one.2 n soon))
   run_soon w b c r n k k' h (retires rec now rest) none soon = absurd (omega (arith, none))
 
+module _ {A : Type 0} (m : UnitModel A) (sound : A → Type 0) (keeps : Keeps m sound) (served : Class → Bool) (stay : ℕ) where
+  -- one call -------------------------------------------------------------------------------------
+
+  -- the rank has fallen by so many cycle calls without a retirement
+  abbrev pub Fallen : ℕ → Running A → Type 0
+  Fallen calls k = (n : ℕ) × Soon m sound keeps served stay 1 3 k n × (n + calls ≤ wait stay)
+
+  -- what the law takes from one call, by its event
+  pub record Lawful (e : Event) (k k' : Running A) : Type 0 where
+    pub tied : Holds m sound keeps served stay k'
+    -- the call does to the core what its event does to the machine
+    pub same_state : seen k' ≡ feed served e (seen k)
+    pub truthful : Truthful served (seen k) e
+    pub run_kept : RunKept stay e
+    pub falls : (es : List Event) → reports e ≡ 0 → Fallen (cycle_calls es) k → Fallen (cycle_calls (e ∷ es)) k'
+
+  retire-lawful : (a : Result Record RetireFault) (k k' : Running A) → Holds m sound keeps served stay k
+      → Retired m sound keeps served stay k a k' → Lawful (retire a) k k'
+  retire-lawful (Ok r) k k' h did = record {
+    tied = did.0;
+    same_state = did.2;
+    truthful = did.1;
+    run_kept = tt;
+    falls = λ es none f. absurd (omega (arith, none));
+  }
+  retire-lawful (Err e) k k' h did = record {
+    tied = subst (Holds m sound keeps served stay) (sym did.0) h;
+    same_state = ap seen did.0;
+    truthful = tt;
+    run_kept = tt;
+    falls = λ es none f. subst (Fallen (cycle_calls es)) (sym did.0) f;
+  }
+
+  cycle-falls : (calls : ℕ) (k k' : Running A) → Cycled m sound keeps served stay k None k' → Fallen calls k → Fallen (calls + 1) k'
+  cycle-falls calls k k' did (zero, soon, le) = absurd (omega (arith, within_one m stay 1 3 k.core k.unit 0 (omega arith) soon))
+  cycle-falls calls k k' did (suc n, soon, le) = (n, did.2 n soon, omega (arith, le))
+
+  cycle-lawful : (a : Option Record) (k k' : Running A) → Cycled m sound keeps served stay k a k' → Lawful (cycle a) k k'
+  cycle-lawful (Some r) k k' did = record {
+    tied = did.0;
+    same_state = did.2;
+    truthful = did.1;
+    run_kept = tt;
+    falls = λ es none f. absurd (omega (arith, none));
+  }
+  cycle-lawful None k k' did = record {
+    tied = did.0;
+    same_state = did.1;
+    truthful = tt;
+    run_kept = tt;
+    falls = λ es none f. cycle-falls (cycle_calls es) k k' did f;
+  }
+
+  lawful : (e : Event) (k k' : Running A) → Holds m sound keeps served stay k → EventCall m sound e k k' → Lawful e k k'
+  lawful (issue a) k k' h call =
+      let did = issue-holds m sound keeps served stay k k' a h call in
+      record {
+        tied = did.0;
+        same_state = did.1;
+        truthful = tt;
+        run_kept = tt;
+        falls = λ es none f. (f.0, issue-soon m sound keeps served stay k k' a 3 f.0 h call (omega arith) f.1, f.2);
+      }
+  lawful (dispatch a) k k' h call =
+      let did = dispatch-holds m sound keeps served stay k k' a h call in
+      record {
+        tied = did.0;
+        same_state = did.1;
+        truthful = tt;
+        run_kept = tt;
+        falls = λ es none f.
+            (f.0, dispatch-soon m sound keeps served stay k k' a 3 f.0 h call (loosen m sound keeps served stay 3 f.0 k f.1), f.2);
+      }
+  lawful (complete a) k k' h call =
+      let did = complete-holds m sound keeps served stay k k' a h call in
+      record {
+        tied = did.0;
+        same_state = did.1;
+        truthful = tt;
+        run_kept = tt;
+        falls = λ es none f. (f.0, complete-soon m sound keeps served stay k k' a f.0 h call f.1, f.2);
+      }
+  lawful (retire a) k k' h call = retire-lawful a k k' h (retire-holds m sound keeps served stay k k' a h call)
+  lawful (cycle a) k k' h call = cycle-lawful a k k' (cycle-holds m sound keeps served stay k k' a h call)
+  lawful (run wanted budget cycles retirements) k k' h call =
+      let did = run_holds m sound keeps served stay wanted budget cycles retirements k k' h call in
+      record {
+        tied = did.0;
+        same_state = did.1;
+        truthful = tt;
+        run_kept = run_kept m sound keeps served stay wanted budget cycles retirements k k' h call;
+        falls = λ es none f.
+            (f.0, run_soon m sound keeps served stay wanted budget cycles retirements f.0 k k' h call none f.1, f.2);
+      }
+  lawful raise k k' h call =
+      let did = line_holds m sound keeps served stay k k' true h call in
+      record {
+        tied = did.0;
+        same_state = did.1;
+        truthful = tt;
+        run_kept = tt;
+        falls = λ es none f. (f.0, line_soon m sound keeps served stay k k' true f.0 call f.1, f.2);
+      }
+  lawful drop k k' h call =
+      let did = line_holds m sound keeps served stay k k' false h call in
+      record {
+        tied = did.0;
+        same_state = did.1;
+        truthful = tt;
+        run_kept = tt;
+        falls = λ es none f. (f.0, line_soon m sound keeps served stay k k' false f.0 call f.1, f.2);
+      }
+
 module _ {A : Type 0} (m : UnitModel A) (sound : A → Type 0) (keeps : Keeps m sound) (s : Stopped A) where
   -- the classes and the longest stay are those at start
   abbrev served : Class → Bool
@@ -97,179 +210,47 @@ module _ {A : Type 0} (m : UnitModel A) (sound : A → Type 0) (keeps : Keeps m 
   abbrev stay : ℕ
   stay = m.stay s.unit
 
-  -- the tie holds after every past -----------------------------------------------------------------
+  -- after every past -----------------------------------------------------------------------------
 
-  retire-tied : (k k' : Running A) (a : Result Record RetireFault) → Holds m sound keeps served stay k
-      → Retired m sound keeps served stay k a k' → Holds m sound keeps served stay k'
-  retire-tied k k' (Ok r) h did = did.0
-  retire-tied k k' (Err f) h did = subst (Holds m sound keeps served stay) (sym did.0) h
+  record After (es : List Event) (now : Running A) : Type 0 where
+    pub tied : Holds m sound keeps served stay now
+    pub same_state : seen now ≡ fed served (at_start m s) es
+    pub same_records : AllTruthful served (at_start m s) es
+    pub runs_kept : AllRunsKept stay es
 
-  cycle-tied : (k k' : Running A) (a : Option Record) → Cycled m sound keeps served stay k a k' → Holds m sound keeps served stay k'
-  cycle-tied k k' (Some r) did = did.0
-  cycle-tied k k' None did = did.0
+  after : (es : List Event) (now : Running A) → Past m sound s es now → After es now
+  after es now (started sized call) = record {
+    tied = subst (λ (c : Core). Tied m sound served stay c now.unit) (sym call.core) (start_ties m sound keeps s now.unit sized call.unit);
+    same_state = ap seen_core call.core;
+    same_records = tt;
+    runs_kept = tt;
+  }
+  after fs now (called {e} {es} {k} past call) =
+      let before = after es k past in
+      let one = lawful m sound keeps served stay e k now before.tied call in
+      record {
+        tied = one.tied;
+        same_state = one.same_state ∙ ap (feed served e) before.same_state;
+        same_records = (subst (λ (f : Fed). Truthful served f e) before.same_state one.truthful, before.same_records);
+        runs_kept = (one.run_kept, before.runs_kept);
+      }
 
-  tied : (fs : List Event) (now : Running A) → Past m sound s fs now → Holds m sound keeps served stay now
-  tied fs now (started sized call) =
-      subst (λ (c : Core). Tied m sound served stay c now.unit) (sym call.core) (start_ties m sound keeps s now.unit sized call.unit)
-  tied fs now (issued {es} {k} {a} past call) = (issue-holds m sound keeps served stay k now a (tied es k past) call).0
-  tied fs now (dispatched {es} {k} {a} past call) = (dispatch-holds m sound keeps served stay k now a (tied es k past) call).0
-  tied fs now (completed {es} {k} {a} past call) = (complete-holds m sound keeps served stay k now a (tied es k past) call).0
-  tied fs now (retired {es} {k} {a} past call) =
-      retire-tied k now a (tied es k past) (retire-holds m sound keeps served stay k now a (tied es k past) call)
-  tied fs now (cycled {es} {k} {a} past call) = cycle-tied k now a (cycle-holds m sound keeps served stay k now a (tied es k past) call)
-  tied fs now (ran {es} {k} {wanted} {budget} {cycles} {retirements} past call) =
-      (run_holds m sound keeps served stay wanted budget cycles retirements k now (tied es k past) call).0
-  tied fs now (raised {es} {k} past call) = (line_holds m sound keeps served stay k now true (tied es k past) call).0
-  tied fs now (dropped {es} {k} past call) = (line_holds m sound keeps served stay k now false (tied es k past) call).0
-
-  -- same state ---------------------------------------------------------------------------------------
-
-  retire_state : (k k' : Running A) (a : Result Record RetireFault) → Retired m sound keeps served stay k a k'
-      → seen k' ≡ feed served (retire a) (seen k)
-  retire_state k k' (Ok r) did = did.2
-  retire_state k k' (Err f) did = ap seen did.0
-
-  cycle_state : (k k' : Running A) (a : Option Record) → Cycled m sound keeps served stay k a k' → seen k' ≡ feed served (cycle a) (seen k)
-  cycle_state k k' (Some r) did = did.2
-  cycle_state k k' None did = did.1
-
-  -- each call does to the core what its event does to the machine
-  same_state_lem : (fs : List Event) (now : Running A) → Past m sound s fs now → seen now ≡ fed served (at_start m s) fs
-  same_state_lem fs now (started sized call) = ap seen_core call.core
-  same_state_lem fs now (issued {es} {k} {a} past call) =
-      (issue-holds m sound keeps served stay k now a (tied es k past) call).1 ∙ ap (feed served (issue a)) (same_state_lem es k past)
-  same_state_lem fs now (dispatched {es} {k} {a} past call) =
-      (dispatch-holds m sound keeps served stay k now a (tied es k past) call).1 ∙ ap (feed served (dispatch a)) (same_state_lem es k past)
-  same_state_lem fs now (completed {es} {k} {a} past call) =
-      (complete-holds m sound keeps served stay k now a (tied es k past) call).1 ∙ ap (feed served (complete a)) (same_state_lem es k past)
-  same_state_lem fs now (retired {es} {k} {a} past call) =
-      retire_state k now a (retire-holds m sound keeps served stay k now a (tied es k past) call)
-      ∙ ap (feed served (retire a)) (same_state_lem es k past)
-  same_state_lem fs now (cycled {es} {k} {a} past call) =
-      cycle_state k now a (cycle-holds m sound keeps served stay k now a (tied es k past) call)
-      ∙ ap (feed served (cycle a)) (same_state_lem es k past)
-  same_state_lem fs now (ran {es} {k} {wanted} {budget} {cycles} {retirements} past call) =
-      (run_holds m sound keeps served stay wanted budget cycles retirements k now (tied es k past) call).1
-      ∙ ap (feed served (run wanted budget cycles retirements)) (same_state_lem es k past)
-  same_state_lem fs now (raised {es} {k} past call) =
-      (line_holds m sound keeps served stay k now true (tied es k past) call).1 ∙ ap (feed served raise) (same_state_lem es k past)
-  same_state_lem fs now (dropped {es} {k} past call) =
-      (line_holds m sound keeps served stay k now false (tied es k past) call).1 ∙ ap (feed served drop) (same_state_lem es k past)
-
-  -- same records -------------------------------------------------------------------------------------
-
-  retire-truthful : (k k' : Running A) (a : Result Record RetireFault) → Retired m sound keeps served stay k a k' → Truthful served (seen k) (retire a)
-  retire-truthful k k' (Ok r) did = did.1
-  retire-truthful k k' (Err f) did = tt
-
-  cycle-truthful : (k k' : Running A) (a : Option Record) → Cycled m sound keeps served stay k a k' → Truthful served (seen k) (cycle a)
-  cycle-truthful k k' (Some r) did = did.1
-  cycle-truthful k k' None did = tt
-
-  same_records_lem : (fs : List Event) (now : Running A) → Past m sound s fs now → AllTruthful served (at_start m s) fs
-  same_records_lem fs now (started sized call) = tt
-  same_records_lem fs now (issued {es} {k} past call) = (tt, same_records_lem es k past)
-  same_records_lem fs now (dispatched {es} {k} past call) = (tt, same_records_lem es k past)
-  same_records_lem fs now (completed {es} {k} past call) = (tt, same_records_lem es k past)
-  same_records_lem fs now (retired {es} {k} {a} past call) = (
-    subst (λ (f : Fed). Truthful served f (retire a)) (same_state_lem es k past)
-        (retire-truthful k now a (retire-holds m sound keeps served stay k now a (tied es k past) call)),
-    same_records_lem es k past,
-  )
-  same_records_lem fs now (cycled {es} {k} {a} past call) = (
-    subst (λ (f : Fed). Truthful served f (cycle a)) (same_state_lem es k past)
-        (cycle-truthful k now a (cycle-holds m sound keeps served stay k now a (tied es k past) call)),
-    same_records_lem es k past,
-  )
-  same_records_lem fs now (ran {es} {k} past call) = (tt, same_records_lem es k past)
-  same_records_lem fs now (raised {es} {k} past call) = (tt, same_records_lem es k past)
-  same_records_lem fs now (dropped {es} {k} past call) = (tt, same_records_lem es k past)
-
-  -- runs ---------------------------------------------------------------------------------------------
-
-  runs_kept : (fs : List Event) (now : Running A) → Past m sound s fs now → AllRunsKept stay fs
-  runs_kept fs now (started sized call) = tt
-  runs_kept fs now (issued {es} {k} past call) = (tt, runs_kept es k past)
-  runs_kept fs now (dispatched {es} {k} past call) = (tt, runs_kept es k past)
-  runs_kept fs now (completed {es} {k} past call) = (tt, runs_kept es k past)
-  runs_kept fs now (retired {es} {k} past call) = (tt, runs_kept es k past)
-  runs_kept fs now (cycled {es} {k} past call) = (tt, runs_kept es k past)
-  runs_kept fs now (ran {es} {k} {wanted} {budget} {cycles} {retirements} past call) =
-      (run_kept m sound keeps served stay wanted budget cycles retirements k now (tied es k past) call, runs_kept es k past)
-  runs_kept fs now (raised {es} {k} past call) = (tt, runs_kept es k past)
-  runs_kept fs now (dropped {es} {k} past call) = (tt, runs_kept es k past)
-
-  -- progress -----------------------------------------------------------------------------------------
+  -- progress -------------------------------------------------------------------------------------
 
   -- every past has the pasts before its later calls
-  before : (e : Event) (es : List Event) (now : Running A) → Past m sound s (e ∷ es) now → (k : Running A) × Past m sound s es k
-  before e es now (issued {k} past call) = (k, past)
-  before e es now (dispatched {k} past call) = (k, past)
-  before e es now (completed {k} past call) = (k, past)
-  before e es now (retired {k} past call) = (k, past)
-  before e es now (cycled {k} past call) = (k, past)
-  before e es now (ran {k} past call) = (k, past)
-  before e es now (raised {k} past call) = (k, past)
-  before e es now (dropped {k} past call) = (k, past)
-
-  before_all : (later es : List Event) (now : Running A) → Past m sound s (later ++ es) now → (k : Running A) × Past m sound s es k
-  before_all [] es now past = (now, past)
-  before_all (e ∷ later) es now past =
-      let one = before e (later ++ es) now past in
-      before_all later es one.0 one.1
+  before : (later es : List Event) (now : Running A) → Past m sound s (later ++ es) now → (k : Running A) × Past m sound s es k
+  before [] es now past = (now, past)
+  before (e ∷ later) es now (called {k} past call) = before later es k past
 
   -- after a stretch without a retirement the rank has fallen by its cycle calls
-  abbrev Fallen : ℕ → Running A → Type 0
-  Fallen calls k = (n : ℕ) × Soon m sound keeps served stay 1 3 k n × (n + calls ≤ wait stay)
-
-  retire-fallen : (k k' : Running A) (a : Result Record RetireFault) (calls : ℕ) → Retired m sound keeps served stay k a k'
-      → reports (retire a) ≡ 0 → Fallen calls k → Fallen calls k'
-  retire-fallen k k' (Ok r) calls did none f = absurd (omega (arith, none))
-  retire-fallen k k' (Err e) calls did none f = subst (Fallen calls) (sym did.0) f
-
-  cycle-fallen : (k k' : Running A) (a : Option Record) (calls : ℕ) → Cycled m sound keeps served stay k a k'
-      → reports (cycle a) ≡ 0 → Fallen calls k → Fallen (calls + 1) k'
-  cycle-fallen k k' (Some r) calls did none f = absurd (omega (arith, none))
-  cycle-fallen k k' None calls did none (zero, soon, le) =
-      absurd (omega (arith, within_one m stay 1 3 k.core k.unit 0 (omega arith) soon))
-  cycle-fallen k k' None calls did none (suc n, soon, le) = (n, did.2 n soon, omega (arith, le))
-
   stretch_fallen : (stretch earlier : List Event) (now : Running A) → Past m sound s (stretch ++ earlier) now → reported stretch ≡ 0
-      → Fallen (cycle_calls stretch) now
+      → Fallen m sound keeps served stay (cycle_calls stretch) now
   stretch_fallen [] earlier now past none =
-      (wait stay, within-wait m sound keeps served stay now.core now.unit (tied earlier now past), omega arith)
-  stretch_fallen (e ∷ stretch) earlier now (issued {k} {a} past call) none =
-      let f = stretch_fallen stretch earlier k past (omega (arith, none)) in
-      (f.0, issue-soon m sound keeps served stay k now a 3 f.0 (tied (stretch ++ earlier) k past) call (omega arith) f.1, f.2)
-  stretch_fallen (e ∷ stretch) earlier now (dispatched {k} {a} past call) none =
-      let f = stretch_fallen stretch earlier k past (omega (arith, none)) in (
-        f.0,
-        dispatch-soon m sound keeps served stay k now a 3 f.0 (tied (stretch ++ earlier) k past) call
-            (loosen m sound keeps served stay 3 f.0 k f.1),
-        f.2,
-      )
-  stretch_fallen (e ∷ stretch) earlier now (completed {k} {a} past call) none =
-      let f = stretch_fallen stretch earlier k past (omega (arith, none)) in
-      (f.0, complete-soon m sound keeps served stay k now a f.0 (tied (stretch ++ earlier) k past) call f.1, f.2)
-  stretch_fallen (e ∷ stretch) earlier now (retired {k} {a} past call) none =
-      retire-fallen k now a (cycle_calls stretch) (retire-holds m sound keeps served stay k now a (tied (stretch ++ earlier) k past) call)
-      (omega (arith, none)) (stretch_fallen stretch earlier k past (omega (arith, none)))
-  stretch_fallen (e ∷ stretch) earlier now (cycled {k} {a} past call) none =
-      cycle-fallen k now a (cycle_calls stretch) (cycle-holds m sound keeps served stay k now a (tied (stretch ++ earlier) k past) call)
-      (omega (arith, none)) (stretch_fallen stretch earlier k past (omega (arith, none)))
-  stretch_fallen (e ∷ stretch) earlier now (ran {k} {wanted} {budget} {cycles} {retirements} past call) none =
-      let f = stretch_fallen stretch earlier k past (omega (arith, none)) in (
-        f.0,
-        run_soon m sound keeps served stay wanted budget cycles retirements f.0 k now (tied (stretch ++ earlier) k past) call
-            (omega (arith, none)) f.1,
-        f.2,
-      )
-  stretch_fallen (e ∷ stretch) earlier now (raised {k} past call) none =
-      let f = stretch_fallen stretch earlier k past (omega (arith, none)) in
-      (f.0, line_soon m sound keeps served stay k now true f.0 call f.1, f.2)
-  stretch_fallen (e ∷ stretch) earlier now (dropped {k} past call) none =
-      let f = stretch_fallen stretch earlier k past (omega (arith, none)) in
-      (f.0, line_soon m sound keeps served stay k now false f.0 call f.1, f.2)
+      (wait stay, within-wait m sound keeps served stay now.core now.unit (after earlier now past).tied, omega arith)
+  stretch_fallen (e ∷ stretch) earlier now (called {k} past call) none =
+      let tied = (after (stretch ++ earlier) k past).tied in
+      (lawful m sound keeps served stay e k now tied call).falls stretch (omega (arith, none))
+      (stretch_fallen stretch earlier k past (omega (arith, none)))
 
   progress : (stretch earlier : List Event) (now : Running A) → Past m sound s (stretch ++ earlier) now
       → wait stay ≤ cycle_calls stretch → 0 < reported stretch
@@ -281,15 +262,16 @@ module _ {A : Type 0} (m : UnitModel A) (sound : A → Type 0) (keeps : Keeps m 
           let f = stretch_fallen stretch earlier now past is in
           absurd (omega (arith, long, f.2, within_one m stay 1 3 now.core now.unit f.0 (omega arith) f.1))
 
--- the law -----------------------------------------------------------------------------------------------
+-- the law -----------------------------------------------------------------------------------------
 
 pub law_of_every_past_lem : {A : Type 0} (m : UnitModel A) (sound : A → Type 0) → Keeps m sound → LawOfEveryPast m sound
 law_of_every_past_lem m sound keeps s es k past =
+    let now = after m sound keeps s es k past in
     record {
-      same_state = same_state_lem m sound keeps s es k past;
-      same_records = same_records_lem m sound keeps s es k past;
+      same_state = now.same_state;
+      same_records = now.same_records;
       progress = λ later stretch earlier is long.
-          let then = before_all m sound keeps s later (stretch ++ earlier) k (subst (λ (fs : List Event). Past m sound s fs k) is past) in
+          let then = before m sound keeps s later (stretch ++ earlier) k (subst (λ (fs : List Event). Past m sound s fs k) is past) in
           progress m sound keeps s stretch earlier then.0 then.1 long;
-      runs = runs_kept m sound keeps s es k past;
+      runs = now.runs_kept;
     }

@@ -1,6 +1,6 @@
 -- The past of a running core: its start and the calls since, refused ones too.
 -- Assumes nothing.
-use Rattle.std.specs.Prelude.{◌≡◌, ℕ, true, false, List, [], ◌∷◌, length, Option, Result}
+use Rattle.std.specs.Prelude.{◌≡◌, ℕ, Bool, true, false, List, [], ◌∷◌, length, Option, Result}
 use Rattle.refusal.specs.declared.IssueFault.{IssueFault}
 use Rattle.refusal.specs.declared.NoneGoes.{NoneGoes}
 use Rattle.refusal.specs.declared.RetireFault.{RetireFault}
@@ -26,22 +26,24 @@ pub data Event : Type 0 where
 abbrev pub Sized : Machine → Type 0
 Sized s = length s.registers ≡ 32
 
+-- the event of a call that sets the line
+abbrev pub line_set : Bool → Event
+line_set true = raise
+line_set false = drop
+
 module _ {A : Type 0} (m : UnitModel A) (sound : A → Type 0) where
+  -- what a call does, by its event
+  abbrev pub EventCall : Event → Running A → Running A → Type 0
+  EventCall (issue a) k k' = IssueCall m sound k a k'
+  EventCall (dispatch a) k k' = DispatchCall m sound k a k'
+  EventCall (complete a) k k' = CompleteCall m sound k a k'
+  EventCall (retire a) k k' = RetireCall m sound k a k'
+  EventCall (cycle a) k k' = CycleCall m sound k a k'
+  EventCall (run wanted budget cycles retirements) k k' = RunCall m sound wanted budget cycles retirements k k'
+  EventCall raise k k' = LineCall m sound true k k'
+  EventCall drop k k' = LineCall m sound false k k'
+
   -- the calls that led from a stopped core to a running one, newest first
   pub data Past (s : Stopped A) : List Event → Running A → Type 0 where
     started : {k : Running A} → Sized s.machine → StartCall m sound s k → Past s [] k
-    issued : {es : List Event} {k k' : Running A} {a : Result ℕ IssueFault}
-        → Past s es k → IssueCall m sound k a k' → Past s (issue a ∷ es) k'
-    dispatched : {es : List Event} {k k' : Running A} {a : Result ℕ NoneGoes}
-        → Past s es k → DispatchCall m sound k a k' → Past s (dispatch a ∷ es) k'
-    completed : {es : List Event} {k k' : Running A} {a : Option ℕ}
-        → Past s es k → CompleteCall m sound k a k' → Past s (complete a ∷ es) k'
-    retired : {es : List Event} {k k' : Running A} {a : Result Record RetireFault}
-        → Past s es k → RetireCall m sound k a k' → Past s (retire a ∷ es) k'
-    cycled : {es : List Event} {k k' : Running A} {a : Option Record}
-        → Past s es k → CycleCall m sound k a k' → Past s (cycle a ∷ es) k'
-    ran : {es : List Event} {k k' : Running A} {wanted budget cycles retirements : ℕ}
-        → Past s es k → RunCall m sound wanted budget cycles retirements k k'
-        → Past s (run wanted budget cycles retirements ∷ es) k'
-    raised : {es : List Event} {k k' : Running A} → Past s es k → LineCall m sound true k k' → Past s (raise ∷ es) k'
-    dropped : {es : List Event} {k k' : Running A} → Past s es k → LineCall m sound false k k' → Past s (drop ∷ es) k'
+    called : {e : Event} {es : List Event} {k k' : Running A} → Past s es k → EventCall e k k' → Past s (e ∷ es) k'

@@ -1,7 +1,7 @@
 // A running core: its calls, each with its outcome, and with the law of every past that it extends.
 ghost use Rattle.std.specs.Prelude.{◌≡◌, true, false};
 ghost use Rattle.law.specs.Calls.{IssueCall, DispatchCall, CompleteCall, RetireCall, CycleCall, RunCall, LineCall, StopCall};
-ghost use Rattle.law.specs.Pasts.{issue, dispatch, complete, retire, cycle, run, raise, drop};
+ghost use Rattle.law.specs.Pasts.{issue, dispatch, complete, retire, cycle, run, raise, drop, line_set};
 ghost use Rattle.law.specs.Laws.{Extends};
 
 use crate::calls;
@@ -72,18 +72,26 @@ impl<U: Unit> Running<U> {
         calls::run(&mut self.state, wanted, budget)
     }
 
+    // Sets the interrupt line up or down.
+    pub fn set_line(&mut self, up: bool)
+        ensures outcome { LineCall U.Unit.means U.Unit.sound up self.old.state self.new.state }
+        ensures past { Extends U.Unit.means U.Unit.sound self.old.state (line_set up) self.new.state }
+    {
+        calls::set_line(&mut self.state, up);
+    }
+
     pub fn raise_line(&mut self)
         ensures outcome { LineCall U.Unit.means U.Unit.sound true self.old.state self.new.state }
         ensures past { Extends U.Unit.means U.Unit.sound self.old.state raise self.new.state }
     {
-        calls::set_line(&mut self.state, true);
+        self.set_line(true);
     }
 
     pub fn drop_line(&mut self)
         ensures outcome { LineCall U.Unit.means U.Unit.sound false self.old.state self.new.state }
         ensures past { Extends U.Unit.means U.Unit.sound self.old.state drop self.new.state }
     {
-        calls::set_line(&mut self.state, false);
+        self.set_line(false);
     }
 
     // Registers, pc and trap state: pc is that of the next retirement.

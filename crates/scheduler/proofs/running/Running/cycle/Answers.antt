@@ -1,14 +1,12 @@
 -- The outcome extends every past.
-use Rattle.law.proofs.Extends.{cycle-extends}
+use Rattle.law.specs.Pasts.{cycle}
+use Rattle.law.proofs.Extends.{call-extends}
 use Rattle.scheduler.proofs.running.Running.cycle.Goals as goal
 
 pub returns : goal.returns
 returns g c =
-    let laws = g.met.U.Unit in
     let did = c.cycle.ensures in
     record {
       outcome = did;
-      past = cycle-extends g.U.Unit.means g.U.Unit.sound
-          (record { stays = laws.stays; dues = laws.dues; tags = laws.tags; offers = laws.offers; rooms = laws.rooms; empty_rooms = laws.empty_rooms })
-          c.args.self.now.state c.cycle.new.running c.cycle.result did;
+      past = call-extends g.U.Unit.means g.U.Unit.sound g.met.U.Unit.laws (cycle c.cycle.result) c.args.self.now.state c.cycle.new.running did;
     }

@@ -1,14 +1,12 @@
 -- The outcome extends every past.
-use Rattle.law.proofs.Extends.{issue-extends}
+use Rattle.law.specs.Pasts.{issue}
+use Rattle.law.proofs.Extends.{call-extends}
 use Rattle.scheduler.proofs.running.Running.issue.Goals as goal
 
 pub returns : goal.returns
 returns g c =
-    let laws = g.met.U.Unit in
     let did = c.issue.ensures in
     record {
       outcome = did;
-      past = issue-extends g.U.Unit.means g.U.Unit.sound
-          (record { stays = laws.stays; dues = laws.dues; tags = laws.tags; offers = laws.offers; rooms = laws.rooms; empty_rooms = laws.empty_rooms })
-          c.args.self.now.state c.issue.new.running c.issue.result did;
+      past = call-extends g.U.Unit.means g.U.Unit.sound g.met.U.Unit.laws (issue c.issue.result) c.args.self.now.state c.issue.new.running did;
     }

@@ -1,14 +1,12 @@
 -- The outcome extends every past.
-use Rattle.law.proofs.Extends.{retire-extends}
+use Rattle.law.specs.Pasts.{retire}
+use Rattle.law.proofs.Extends.{call-extends}
 use Rattle.scheduler.proofs.running.Running.retire.Goals as goal
 
 pub returns : goal.returns
 returns g c =
-    let laws = g.met.U.Unit in
     let did = c.retire.ensures in
     record {
       outcome = did;
-      past = retire-extends g.U.Unit.means g.U.Unit.sound
-          (record { stays = laws.stays; dues = laws.dues; tags = laws.tags; offers = laws.offers; rooms = laws.rooms; empty_rooms = laws.empty_rooms })
-          c.args.self.now.state c.retire.new.running c.retire.result did;
+      past = call-extends g.U.Unit.means g.U.Unit.sound g.met.U.Unit.laws (retire c.retire.result) c.args.self.now.state c.retire.new.running did;
     }
