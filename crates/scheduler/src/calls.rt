@@ -105,10 +105,7 @@ fn reported(answer: Option<Record>) -> u64
     ensures count { result ≡ reports (cycle answer) }
     ensures one { result ≤ 1 }
 {
-    match answer {
-        Some(_) => 1,
-        None => 0,
-    }
+    u64::from(answer.is_some())
 }
 
 pub(crate) fn run<U: Unit>(running: &mut Running<U>, wanted: u64, budget: u64) -> Ran
@@ -116,6 +113,7 @@ pub(crate) fn run<U: Unit>(running: &mut Running<U>, wanted: u64, budget: u64) -
 {
     let mut cycles = 0;
     let mut retirements = 0;
+    // two counts end the loop, and both are the answer: a `for` over one would have two ways out
     while retirements < wanted && cycles < budget {
         retirements += reported(cycle(running));
         cycles += 1;

@@ -53,35 +53,23 @@ fn operand(core: &Core, register: u8) -> Operand
 fn entry_for(pc: u32, word: u32, decoded: Decoded) -> Entry
     ensures { result ≡ entry_for pc word decoded }
 {
-    match decoded {
-        Decoded::Trap(cause) => Entry {
-            pc,
-            word,
-            destination: 0,
-            result: Some(Judgement::Trap(cause)),
-        },
-        Decoded::Return => Entry {
-            pc,
-            word,
-            destination: 0,
-            result: Some(Judgement::Return),
-        },
-        Decoded::Work(_, instruction) => Entry {
-            pc,
-            word,
-            destination: instruction.rd,
-            result: None,
-        },
+    let (destination, result) = match decoded {
+        Decoded::Trap(cause) => (0, Some(Judgement::Trap(cause))),
+        Decoded::Return => (0, Some(Judgement::Return)),
+        Decoded::Work(_, instruction) => (instruction.rd, None),
+    };
+    Entry {
+        pc,
+        word,
+        destination,
+        result,
     }
 }
 
 fn needs_station(decoded: Decoded) -> bool
     ensures { result ≡ needs_station decoded }
 {
-    match decoded {
-        Decoded::Trap(_) | Decoded::Return => false,
-        Decoded::Work(_, _) => true,
-    }
+    matches!(decoded, Decoded::Work(_, _))
 }
 
 fn new_station(core: &Core, class: Class, instruction: Instruction, word: u32) -> Station
