@@ -159,13 +159,13 @@ arrived t o c =
       tags = c.tags;
     }
 
-module _ {A : Type 0} (m : UnitModel A) (sound : A → Type 0) (served : Class → Bool) (stay : ℕ) (c : Core) (u u' : A)
-    (h : Tied m sound served stay c u) (call : StepCall m sound u true u') where
+module _ {A : Type 0} (m : UnitModel A) (served : Class → Bool) (stay : ℕ) (c : Core) (u u' : A)
+    (h : Tied m served stay c u) (call : StepCall m u true u') where
   moved : (t : ℕ) → Moved true (offers_tag (m.offer u) t) (m.held u t) (m.held u' t)
   moved = (call.stepped h.shaped.sounds).0
 
   -- nothing is offered
-  none_completes : m.offer u ≡ None → Tied m sound served stay c u'
+  none_completes : m.offer u ≡ None → Tied m served stay c u'
   none_completes none =
       let shape = h.shaped in
       let fell : (t : ℕ) → Fell 1 (m.held u t) (m.held u' t) =
@@ -238,7 +238,7 @@ module _ {A : Type 0} (m : UnitModel A) (sound : A → Type 0) (served : Class �
         (ap (λ (x : Option Offer). offers_tag x t) offered ∙ ne_eqb o.tag t (λ is. ne (sym is ∙ the_job.asked.tag)))
         (moved t)
 
-    arrives-tied : Tied m sound served stay (arrived (slot_at c.buffer i) o.outcome c) u'
+    arrives-tied : Tied m served stay (arrived (slot_at c.buffer i) o.outcome c) u'
     arrives-tied =
         let x = c.machine in
         let q = c.buffer in
@@ -305,13 +305,13 @@ module _ {A : Type 0} (m : UnitModel A) (sound : A → Type 0) (served : Class �
           };
         }
 
-    offer-completes : Tied m sound served stay (completed_by (Some o) c) u'
-    offer-completes = subst (λ (t : ℕ). Tied m sound served stay (arrived t o.outcome c) u') (sym the_job.asked.tag) arrives-tied
+    offer-completes : Tied m served stay (completed_by (Some o) c) u'
+    offer-completes = subst (λ (t : ℕ). Tied m served stay (arrived t o.outcome c) u') (sym the_job.asked.tag) arrives-tied
 
-  pub complete-keeps : Keeps m sound → Tied m sound served stay (completed_by (m.offer u) c) u'
+  pub complete-keeps : Keeps m → Tied m served stay (completed_by (m.offer u) c) u'
   complete-keeps keeps = by (m.offer u) refl
     where
-      by : (x : Option Offer) → m.offer u ≡ x → Tied m sound served stay (completed_by x c) u'
+      by : (x : Option Offer) → m.offer u ≡ x → Tied m served stay (completed_by x c) u'
       by None is = none_completes is
       by (Some o) is =
           let found = keeps.offers u h.shaped.sounds o is in

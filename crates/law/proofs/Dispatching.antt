@@ -83,9 +83,9 @@ module _ (served : Class → Bool) (q : Buffer) (x : Machine) where
       ∙ work-class served (fetched (ahead served x h.index)) s.class h.instruction h.asked.work in
       ap (room_in (m.room u)) known ∙ room
 
-module _ {A : Type 0} (m : UnitModel A) (sound : A → Type 0) (served : Class → Bool) (stay : ℕ) (c : Core) (u u' : A) (j : Job)
-    (h : Tied m sound served stay c u) (goes-it : goes (m.room u) c.buffer.head c.stations.places ≡ Some j)
-    (call : TakeCall m sound u j u') where
+module _ {A : Type 0} (m : UnitModel A) (served : Class → Bool) (stay : ℕ) (c : Core) (u u' : A) (j : Job)
+    (h : Tied m served stay c u) (goes-it : goes (m.room u) c.buffer.head c.stations.places ≡ Some j)
+    (call : TakeCall m u j u') where
   -- the station that the job goes from
   pub record Sender : Type 0 where
     pub station : Station
@@ -106,9 +106,9 @@ module _ {A : Type 0} (m : UnitModel A) (sound : A → Type 0) (served : Class �
   tag_was_free = ap (m.held u) (job-tag sender.station j sender.job) ∙ sender.free
 
   -- the unit takes it
-  pub takes : Joined m u j u' × sound u'
+  pub takes : Joined m u j u' × m.sound u'
   takes =
-      subst (λ (b : Bool). Taken m sound b u j u')
+      subst (λ (b : Bool). Taken m b u j u')
       (room_for_job served c.buffer c.machine m u sender.station j sender.tied sender.job sender.room)
       call.taken h.shaped.sounds tag_was_free
 
@@ -127,8 +127,8 @@ module _ {A : Type 0} (m : UnitModel A) (sound : A → Type 0) (served : Class �
             subst (JobTied served c.buffer c.machine t) (sym was.job) (h.work.jobs t was.held was.is)
       ]
 
-  somewhere_after : (t : ℕ) → InStation t c.stations.places ⊎ HeldUnder m sound served stay u t
-      → InStation t (map (freed_place j.tag) c.stations.places) ⊎ HeldUnder m sound served stay u' t
+  somewhere_after : (t : ℕ) → InStation t c.stations.places ⊎ HeldUnder m served stay u t
+      → InStation t (map (freed_place j.tag) c.stations.places) ⊎ HeldUnder m served stay u' t
   somewhere_after t (inl waiting) =
       elim (eqb_tells t j.tag) [
         | inl e ↦
@@ -141,7 +141,7 @@ module _ {A : Type 0} (m : UnitModel A) (sound : A → Type 0) (served : Class �
       let stays = stays-held 0 (m.held u t) (m.held u' t) held.0 (takes.0.others t other) held.1 in
       inr (stays.held, stays.is)
 
-  pub dispatch-keeps : Tied m sound served stay (sent j c) u'
+  pub dispatch-keeps : Tied m served stay (sent j c) u'
   dispatch-keeps =
       let shape = h.shaped in
       record {

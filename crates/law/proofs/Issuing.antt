@@ -126,8 +126,8 @@ module _ (served : Class → Bool) where
   slot_of_newest q e n false None = refl
   slot_of_newest q e n false (Some k) = refl
 
-module _ {A : Type 0} (m : UnitModel A) (sound : A → Type 0) (served : Class → Bool) (stay : ℕ) (c : Core) (u : A)
-    (h : Tied m sound served stay c u) (left : c.buffer.count < 16) where
+module _ {A : Type 0} (m : UnitModel A) (served : Class → Bool) (stay : ℕ) (c : Core) (u : A)
+    (h : Tied m served stay c u) (left : c.buffer.count < 16) where
   -- the machine before the new entry
   abbrev before : Machine
   before = ahead served c.machine c.buffer.count
@@ -246,7 +246,7 @@ module _ {A : Type 0} (m : UnitModel A) (sound : A → Type 0) (served : Class �
   older_or_new : (i : ℕ) → i < c.buffer.count + 1 → (i < c.buffer.count) ⊎ (i ≡ c.buffer.count)
   older_or_new i lt = elim (cases_lt i c.buffer.count) [ inl below ↦ inl below | inr above ↦ inr (omega (arith, lt, above)) ]
 
-  pub issue-keeps : (needs_station (asked c) && not (any_free c.stations.places)) ≡ false → Tied m sound served stay (issued c) u
+  pub issue-keeps : (needs_station (asked c) && not (any_free c.stations.places)) ≡ false → Tied m served stay (issued c) u
   issue-keeps free =
       let x = c.machine in
       let q = c.buffer in

@@ -63,10 +63,10 @@ with_line l x = record { machine = x; line = l }
 abbrev pub once : (Class → Bool) → Fed → Fed
 once served f = record { machine = (step served f.line f.machine).0; line = f.line }
 
-module _ {A : Type 0} (m : UnitModel A) (sound : A → Type 0) (keeps : Keeps m sound) (served : Class → Bool) (stay : ℕ) where
+module _ {A : Type 0} (m : UnitModel A) (keeps : Keeps m) (served : Class → Bool) (stay : ℕ) where
   -- the core is tied to the plan
   abbrev pub Holds : Running A → Type 0
-  Holds k = Tied m sound served stay k.core k.unit
+  Holds k = Tied m served stay k.core k.unit
 
   -- the core retires within n cycle calls
   abbrev pub Soon : ℕ → ℕ → Running A → ℕ → Type 0
@@ -86,14 +86,14 @@ module _ {A : Type 0} (m : UnitModel A) (sound : A → Type 0) (keeps : Keeps m 
       let ok = issue_ok (full c.buffer) (lacks c) (next_slot c.buffer) t e in
       (leb-false 16 c.buffer.count ok.0, ok.1)
 
-  pub issue-holds : (k k' : Running A) (a : Result ℕ IssueFault) → Holds k → IssueCall m sound k a k' → Holds k' × (seen k' ≡ seen k)
+  pub issue-holds : (k k' : Running A) (a : Result ℕ IssueFault) → Holds k → IssueCall m k a k' → Holds k' × (seen k' ≡ seen k)
   issue-holds k k' a h call = by (issue_answer k.core) refl call.does
     where
-      by : (o : Result ℕ IssueFault) → issue_answer k.core ≡ o → IssueDoes m sound o k k' → Holds k' × (seen k' ≡ seen k)
+      by : (o : Result ℕ IssueFault) → issue_answer k.core ≡ o → IssueDoes m o k k' → Holds k' × (seen k' ≡ seen k)
       by (Ok t) is does =
           let left = issue_left k.core t is in (
-            at_state (Tied m sound served stay) k' (issued k.core) k.unit does.0 does.1
-                (issue-keeps m sound served stay k.core k.unit h left.0 left.1),
+            at_state (Tied m served stay) k' (issued k.core) k.unit does.0 does.1
+                (issue-keeps m served stay k.core k.unit h left.0 left.1),
             ap seen_core does.0,
           )
       by (Err f) is does = (subst Holds (sym does) h, ap seen does)
@@ -106,18 +106,18 @@ module _ {A : Type 0} (m : UnitModel A) (sound : A → Type 0) (keeps : Keeps m 
         | inl e ↦ absurd (omega (arith, leb-true 16 c.buffer.count e, none))
         | inr e ↦
             true≢false (sym e ∙ and_right (needs_station (asked c)) (not (any_free c.stations.places))
-            (not_from_true (any_free c.stations.places) (free_when_empty m sound keeps served stay c k.unit h none)))
+            (not_from_true (any_free c.stations.places) (free_when_empty m keeps served stay c k.unit h none)))
       ]
 
-  pub issue-soon : (k k' : Running A) (a : Result ℕ IssueFault) (gap n : ℕ) → Holds k → IssueCall m sound k a k' → 2 ≤ gap
+  pub issue-soon : (k k' : Running A) (a : Result ℕ IssueFault) (gap n : ℕ) → Holds k → IssueCall m k a k' → 2 ≤ gap
       → Soon 1 gap k n → Soon 1 3 k' n
   issue-soon k k' a gap n h call g w = by (issue_answer k.core) refl call.does w
     where
-      by : (o : Result ℕ IssueFault) → issue_answer k.core ≡ o → IssueDoes m sound o k k' → Soon 1 gap k n → Soon 1 3 k' n
+      by : (o : Result ℕ IssueFault) → issue_answer k.core ≡ o → IssueDoes m o k k' → Soon 1 gap k n → Soon 1 3 k' n
       by (Ok t) is does w =
           let left = issue_left k.core t is in
           at_state (λ c u. Within m stay 1 3 c u n) k' (issued k.core) k.unit does.0 does.1
-          (issue-within m sound keeps served stay k.core k.unit h gap n left.0 left.1 g w)
+          (issue-within m keeps served stay k.core k.unit h gap n left.0 left.1 g w)
       by (Err f) is does (done j some at le) = subst (λ x. Soon 1 3 x n) (sym does) (done j some at le)
       by (Err f) is does (held i some at le) = subst (λ x. Soon 1 3 x n) (sym does) (held i some at le)
       by (Err f) is does (waiting longest some at l dues le) = subst (λ x. Soon 1 3 x n) (sym does) (waiting longest some at l dues le)
@@ -125,26 +125,26 @@ module _ {A : Type 0} (m : UnitModel A) (sound : A → Type 0) (keeps : Keeps m 
 
   -- dispatch -------------------------------------------------------------------------------------
 
-  pub dispatch-holds : (k k' : Running A) (a : Result ℕ NoneGoes) → Holds k → DispatchCall m sound k a k' → Holds k' × (seen k' ≡ seen k)
-  dispatch-holds k k' a h call = by (going m sound k) refl call.does
+  pub dispatch-holds : (k k' : Running A) (a : Result ℕ NoneGoes) → Holds k → DispatchCall m k a k' → Holds k' × (seen k' ≡ seen k)
+  dispatch-holds k k' a h call = by (going m k) refl call.does
     where
-      by : (o : Option Job) → going m sound k ≡ o → DispatchDoes m sound o k k' → Holds k' × (seen k' ≡ seen k)
+      by : (o : Option Job) → going m k ≡ o → DispatchDoes m o k k' → Holds k' × (seen k' ≡ seen k)
       by None is does = (subst Holds (sym does) h, ap seen does)
       by (Some j) is does = (
-        subst (λ (c : Core). Tied m sound served stay c k'.unit) (sym does.0)
-            (dispatch-keeps m sound served stay k.core k.unit k'.unit j h is does.1),
+        subst (λ (c : Core). Tied m served stay c k'.unit) (sym does.0)
+            (dispatch-keeps m served stay k.core k.unit k'.unit j h is does.1),
         ap seen_core does.0,
       )
 
-  pub dispatch-soon : (k k' : Running A) (a : Result ℕ NoneGoes) (gap n : ℕ) → Holds k → DispatchCall m sound k a k'
+  pub dispatch-soon : (k k' : Running A) (a : Result ℕ NoneGoes) (gap n : ℕ) → Holds k → DispatchCall m k a k'
       → Soon 0 gap k n → Soon 1 gap k' n
-  dispatch-soon k k' a gap n h call w = by (going m sound k) refl call.does
+  dispatch-soon k k' a gap n h call w = by (going m k) refl call.does
     where
-      by : (o : Option Job) → going m sound k ≡ o → DispatchDoes m sound o k k' → Soon 1 gap k' n
-      by None is does = subst (λ x. Soon 1 gap x n) (sym does) (dispatch-refused m sound keeps served stay k.core k.unit h gap n is w)
+      by : (o : Option Job) → going m k ≡ o → DispatchDoes m o k k' → Soon 1 gap k' n
+      by None is does = subst (λ x. Soon 1 gap x n) (sym does) (dispatch-refused m keeps served stay k.core k.unit h gap n is w)
       by (Some j) is does =
           subst (λ (c : Core). Within m stay 1 gap c k'.unit n) (sym does.0)
-          (dispatch-within m sound keeps served stay k.core k.unit h k'.unit j is does.1 0 gap n w)
+          (dispatch-within m keeps served stay k.core k.unit h k'.unit j is does.1 0 gap n w)
 
   -- a bound that holds for some longest due holds for any lower least one
   pub loosen : (gap n : ℕ) (k : Running A) → Soon 1 gap k n → Soon 0 gap k n
@@ -160,23 +160,23 @@ module _ {A : Type 0} (m : UnitModel A) (sound : A → Type 0) (keeps : Keeps m 
   seen_completed None c = refl
   seen_completed (Some o) c = refl
 
-  pub complete-holds : (k k' : Running A) (a : Option ℕ) → Holds k → CompleteCall m sound k a k' → Holds k' × (seen k' ≡ seen k)
+  pub complete-holds : (k k' : Running A) (a : Option ℕ) → Holds k → CompleteCall m k a k' → Holds k' × (seen k' ≡ seen k)
   complete-holds k k' a h call = (
-    subst (λ (c : Core). Tied m sound served stay c k'.unit) (sym call.core)
-        (complete-keeps m sound served stay k.core k.unit k'.unit h call.unit keeps),
+    subst (λ (c : Core). Tied m served stay c k'.unit) (sym call.core)
+        (complete-keeps m served stay k.core k.unit k'.unit h call.unit keeps),
     ap seen_core call.core ∙ seen_completed (m.offer k.unit) k.core,
   )
 
-  pub complete-soon : (k k' : Running A) (a : Option ℕ) (n : ℕ) → Holds k → CompleteCall m sound k a k' → Soon 1 3 k n → Soon 1 3 k' n
+  pub complete-soon : (k k' : Running A) (a : Option ℕ) (n : ℕ) → Holds k → CompleteCall m k a k' → Soon 1 3 k n → Soon 1 3 k' n
   complete-soon k k' a n h call w =
       subst (λ (c : Core). Within m stay 1 3 c k'.unit n) (sym call.core)
-      (complete-within m sound keeps served stay k.core k.unit h k'.unit call.unit n w)
+      (complete-within m keeps served stay k.core k.unit h k'.unit call.unit n w)
 
-  pub complete_sooner : (k k' : Running A) (a : Option ℕ) (n : ℕ) → Holds k → CompleteCall m sound k a k'
+  pub complete_sooner : (k k' : Running A) (a : Option ℕ) (n : ℕ) → Holds k → CompleteCall m k a k'
       → (entry_at k.core.buffer 0).result ≡ None ⊎ (k.core.buffer.count ≡ 0) → Soon 1 3 k (suc n) → Soon 0 2 k' n
   complete_sooner k k' a n h call not_done w =
       subst (λ (c : Core). Within m stay 0 2 c k'.unit n) (sym call.core)
-      (complete_ticks m sound keeps served stay k.core k.unit h k'.unit call.unit n not_done w)
+      (complete_ticks m keeps served stay k.core k.unit h k'.unit call.unit n not_done w)
 
   -- retire ---------------------------------------------------------------------------------------
 
@@ -196,17 +196,17 @@ module _ {A : Type 0} (m : UnitModel A) (sound : A → Type 0) (keeps : Keeps m 
         ∙ ap (λ (i : Judgement). applied k.core.line (word_or0 (fetched k.core.machine)) i k.core.machine)
         ((h.entries.entries 0 some).result j is)
 
-    moves : (b : Bool) → diverts k.core.line j k.core.machine ≡ b → RetireMoves m sound b oldest j k k'
+    moves : (b : Bool) → diverts k.core.line j k.core.machine ≡ b → RetireMoves m b oldest j k k'
         → Holds k' × (seen k' ≡ once served (seen k))
     moves true div does = (
-      subst (λ (c : Core). Tied m sound served stay c k'.unit) (sym does.0)
-          (flush_ties m sound served stay k.core k.unit k'.unit oldest j h does.1),
+      subst (λ (c : Core). Tied m served stay c k'.unit) (sym does.0)
+          (flush_ties m served stay k.core k.unit k'.unit oldest j h does.1),
       ap seen_core does.0
           ∙ ap (λ (x : Machine × Record). with_line k.core.line x.0) one_step,
     )
     moves false div does = (
-      at_state (Tied m sound served stay) k' (retired_on k.core oldest j) k.unit does.0 does.1
-          (retire-keeps m sound served stay k.core k.unit j h some is div),
+      at_state (Tied m served stay) k' (retired_on k.core oldest j) k.unit does.0 does.1
+          (retire-keeps m served stay k.core k.unit j h some is div),
       ap seen_core does.0
           ∙ ap (λ (x : Machine × Record). with_line k.core.line x.0) one_step,
     )
@@ -221,22 +221,22 @@ module _ {A : Type 0} (m : UnitModel A) (sound : A → Type 0) (keeps : Keeps m 
       ]
 
   retire_entry : (k k' : Running A) (a : Result Record RetireFault) → Holds k → 0 < k.core.buffer.count
-      → (o : Option Judgement) → (entry_at k.core.buffer 0).result ≡ o → RetiresEntry m sound (entry_at k.core.buffer 0) o k a k' → Retired k a k'
+      → (o : Option Judgement) → (entry_at k.core.buffer 0).result ≡ o → RetiresEntry m (entry_at k.core.buffer 0) o k a k' → Retired k a k'
   retire_entry k k' a h some None is does = subst (λ (y : Result Record RetireFault). Retired k y k') (sym does.0) (does.1, inl is)
   retire_entry k k' a h some (Some j) is does =
       let moved = moves k k' h some j is (diverts k.core.line j k.core.machine) refl does.1 in
       subst (λ (y : Result Record RetireFault). Retired k y k') (sym does.0)
       (moved.0, ap (λ (x : Machine × Record). x.1) (one_step k k' h some j is), moved.1)
 
-  pub retire-holds : (k k' : Running A) (a : Result Record RetireFault) → Holds k → RetireCall m sound k a k' → Retired k a k'
+  pub retire-holds : (k k' : Running A) (a : Result Record RetireFault) → Holds k → RetireCall m k a k' → Retired k a k'
   retire-holds k k' a h call =
       elim (oldest_is k.core) [
         | inl none ↦
-            let does : Retires m sound None k a k' = subst (λ (o : Option Entry). Retires m sound o k a k') none.1 call in
+            let does : Retires m None k a k' = subst (λ (o : Option Entry). Retires m o k a k') none.1 call in
             subst (λ (y : Result Record RetireFault). Retired k y k') (sym does.0) (does.1, inr none.0)
         | inr some ↦
             let e = entry_at k.core.buffer 0 in
-            let does : Retires m sound (Some e) k a k' = subst (λ (o : Option Entry). Retires m sound o k a k') some.1 call in
+            let does : Retires m (Some e) k a k' = subst (λ (o : Option Entry). Retires m o k a k') some.1 call in
             retire_entry k k' a h some.0 e.result refl does
       ]
 
@@ -247,7 +247,7 @@ module _ {A : Type 0} (m : UnitModel A) (sound : A → Type 0) (keeps : Keeps m 
   Cycled k None k' = Holds k' × (seen k' ≡ seen k) × ((n : ℕ) → Soon 1 3 k (suc n) → Soon 1 3 k' n)
 
   -- after the retirement nothing reaches the machine
-  rest_holds : (k k' : Running A) (a : Option Record) (call : CycleCall m sound k a k') → Holds call.retired
+  rest_holds : (k k' : Running A) (a : Option Record) (call : CycleCall m k a k') → Holds call.retired
       → Holds k' × (seen k' ≡ seen call.retired)
   rest_holds k k' a call h =
       let one = complete-holds call.retired call.completed call.completion h call.completes in
@@ -255,7 +255,7 @@ module _ {A : Type 0} (m : UnitModel A) (sound : A → Type 0) (keeps : Keeps m 
       let three = issue-holds call.dispatched k' call.issuing two.0 call.issues in
       (three.0, three.1 ∙ (two.1 ∙ one.1))
 
-  cycle-soon : (k k' : Running A) (a : Option Record) (call : CycleCall m sound k a k') (n : ℕ) → Holds call.retired
+  cycle-soon : (k k' : Running A) (a : Option Record) (call : CycleCall m k a k') (n : ℕ) → Holds call.retired
       → (entry_at call.retired.core.buffer 0).result ≡ None ⊎ (call.retired.core.buffer.count ≡ 0)
       → Soon 1 3 call.retired (suc n) → Soon 1 3 k' n
   cycle-soon k k' a call n h not_done w =
@@ -265,7 +265,7 @@ module _ {A : Type 0} (m : UnitModel A) (sound : A → Type 0) (keeps : Keeps m 
       (dispatch-soon call.completed call.dispatched call.sending 2 n one.0 call.dispatches
       (complete_sooner call.retired call.completed call.completion n h call.completes not_done w))
 
-  pub cycle-holds : (k k' : Running A) (a : Option Record) → Holds k → CycleCall m sound k a k' → Cycled k a k'
+  pub cycle-holds : (k k' : Running A) (a : Option Record) → Holds k → CycleCall m k a k' → Cycled k a k'
   cycle-holds k k' a h call =
       subst (λ (o : Option Record). Cycled k o k') (sym call.answers)
       (by call.retirement (retire-holds k call.retired call.retirement h call.retires))
@@ -287,7 +287,7 @@ module _ {A : Type 0} (m : UnitModel A) (sound : A → Type 0) (keeps : Keeps m 
 
   -- the line -------------------------------------------------------------------------------------
 
-  lined-tied : (c : Core) (u : A) (up : Bool) → Tied m sound served stay c u → Tied m sound served stay (lined up c) u
+  lined-tied : (c : Core) (u : A) (up : Bool) → Tied m served stay c u → Tied m served stay (lined up c) u
   lined-tied c u up h =
       let shape = h.shaped in
       record {
@@ -319,14 +319,14 @@ module _ {A : Type 0} (m : UnitModel A) (sound : A → Type 0) (keeps : Keeps m 
   lined-within c u up n (waiting longest some at l dues le) = waiting longest some at l dues le
   lined-within c u up n (empty none le) = empty none le
 
-  pub line_holds : (k k' : Running A) (up : Bool) → Holds k → LineCall m sound up k k' → Holds k' × (seen k' ≡ with_line up k.core.machine)
+  pub line_holds : (k k' : Running A) (up : Bool) → Holds k → LineCall m up k k' → Holds k' × (seen k' ≡ with_line up k.core.machine)
   line_holds k k' up h call = (
-    at_state (Tied m sound served stay) k' (lined up k.core) k.unit call.core call.unit
+    at_state (Tied m served stay) k' (lined up k.core) k.unit call.core call.unit
         (lined-tied k.core k.unit up h),
     ap seen_core call.core,
   )
 
-  pub line_soon : (k k' : Running A) (up : Bool) (n : ℕ) → LineCall m sound up k k' → Soon 1 3 k n → Soon 1 3 k' n
+  pub line_soon : (k k' : Running A) (up : Bool) (n : ℕ) → LineCall m up k k' → Soon 1 3 k n → Soon 1 3 k' n
   line_soon k k' up n call w =
       at_state (λ c u. Within m stay 1 3 c u n) k' (lined up k.core) k.unit call.core call.unit
       (lined-within k.core k.unit up n w)

@@ -87,8 +87,8 @@ module _ (served : Class → Bool) (q : Buffer) (x : Machine) where
         ready = job.1;
       }
 
-module _ {A : Type 0} (m : UnitModel A) (sound : A → Type 0) (keeps : Keeps m sound) (served : Class → Bool) (stay : ℕ)
-    (c : Core) (u : A) (h : Tied m sound served stay c u) where
+module _ {A : Type 0} (m : UnitModel A) (keeps : Keeps m) (served : Class → Bool) (stay : ℕ)
+    (c : Core) (u : A) (h : Tied m served stay c u) where
   head_slot : slot_at c.buffer 0 ≡ c.buffer.head
   head_slot = slot_of_head c.buffer h.shaped.head
 

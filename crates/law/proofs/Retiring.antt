@@ -228,10 +228,10 @@ left_with c e y =
       tags = untagged e.destination c.buffer.head c.tags;
     }
 
-module _ {A : Type 0} (m : UnitModel A) (sound : A → Type 0) (served : Class → Bool) (stay : ℕ) where
-  shift_tied : (c : Core) (u : A) (j : Judgement) → Tied m sound served stay c u → 0 < c.buffer.count
+module _ {A : Type 0} (m : UnitModel A) (served : Class → Bool) (stay : ℕ) where
+  shift_tied : (c : Core) (u : A) (j : Judgement) → Tied m served stay c u → 0 < c.buffer.count
       → (entry_at c.buffer 0).result ≡ Some j
-      → Tied m sound served stay (left_with c (entry_at c.buffer 0) (straight served c.machine)) u
+      → Tied m served stay (left_with c (entry_at c.buffer 0) (straight served c.machine)) u
   shift_tied c u j h some done =
       let x = c.machine in
       let q = c.buffer in
@@ -272,27 +272,27 @@ module _ {A : Type 0} (m : UnitModel A) (sound : A → Type 0) (served : Class �
           jobs = λ t k is. job_shift served q x j done t k.job (h.work.jobs t k is);
           apart = h.work.apart;
           somewhere = λ i lt is.
-              subst (λ (t : ℕ). InStation t c.stations.places ⊎ HeldUnder m sound served stay u t) (sym (slot_popped q i))
+              subst (λ (t : ℕ). InStation t c.stations.places ⊎ HeldUnder m served stay u t) (sym (slot_popped q i))
               (h.work.somewhere (suc i) (omega (arith, lt)) (sym (ap (λ (y : Entry). y.result) (popped_at q i)) ∙ is));
         };
       }
 
   -- the oldest entry leaves
-  pub retire-keeps : (c : Core) (u : A) (j : Judgement) → Tied m sound served stay c u → 0 < c.buffer.count
+  pub retire-keeps : (c : Core) (u : A) (j : Judgement) → Tied m served stay c u → 0 < c.buffer.count
       → (entry_at c.buffer 0).result ≡ Some j → diverts c.line j c.machine ≡ false
-      → Tied m sound served stay (retired_on c (entry_at c.buffer 0) j) u
+      → Tied m served stay (retired_on c (entry_at c.buffer 0) j) u
   retire-keeps c u j h some done on =
       let e = entry_at c.buffer 0 in
-      subst (λ (y : Machine). Tied m sound served stay (left_with c e y) u)
+      subst (λ (y : Machine). Tied m served stay (left_with c e y) u)
       (sym (goes_straight served c.line e.word j c.machine ((h.entries.entries 0 some).result j done) on))
       (shift_tied c u j h some done)
 
   -- everything in flight is dropped
-  pub flush_ties : (c : Core) (u u' : A) (e : Entry) (j : Judgement) → Tied m sound served stay c u → ClearCall m sound u u'
-      → Tied m sound served stay (flushed c e j) u'
+  pub flush_ties : (c : Core) (u u' : A) (e : Entry) (j : Judgement) → Tied m served stay c u → ClearCall m u u'
+      → Tied m served stay (flushed c e j) u'
   flush_ties c u u' e j h call =
       let shape = h.shaped in
-      nothing_in_flight m sound served stay (flushed c e j) u'
+      nothing_in_flight m served stay (flushed c e j) u'
       (record {
         registers = step_sized c.line e.word j c.machine shape.registers;
         entries = shape.entries;

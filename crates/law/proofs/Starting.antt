@@ -23,9 +23,9 @@ same_test true c f g = sym (f refl)
 same_test false true f g = g refl
 same_test false false f g = refl
 
-module _ {A : Type 0} (m : UnitModel A) (sound : A → Type 0) (served : Class → Bool) (stay : ℕ) where
-  pub nothing_in_flight : (c : Core) (u : A) → Shaped m sound served stay c u → c.buffer.count ≡ 0 → c.fetch ≡ c.machine.pc
-      → c.stations ≡ no_stations → c.tags ≡ no_tags → Empty m u → Tied m sound served stay c u
+module _ {A : Type 0} (m : UnitModel A) (served : Class → Bool) (stay : ℕ) where
+  pub nothing_in_flight : (c : Core) (u : A) → Shaped m served stay c u → c.buffer.count ≡ 0 → c.fetch ≡ c.machine.pc
+      → c.stations ≡ no_stations → c.tags ≡ no_tags → Empty m u → Tied m served stay c u
   nothing_in_flight c u h none at stations tags empty =
       record {
         shaped = h;
@@ -43,9 +43,9 @@ module _ {A : Type 0} (m : UnitModel A) (sound : A → Type 0) (served : Class �
         };
       }
 
-module _ {A : Type 0} (m : UnitModel A) (sound : A → Type 0) (keeps : Keeps m sound) where
+module _ {A : Type 0} (m : UnitModel A) (keeps : Keeps m) where
   -- a unit without jobs has room for exactly what it serves
-  room_of_empty : (u : A) → sound u → Empty m u → (a : Class) → m.room u a ≡ m.serves u a
+  room_of_empty : (u : A) → m.sound u → Empty m u → (a : Class) → m.room u a ≡ m.serves u a
   room_of_empty u s empty a =
       same_test (m.room u a) (m.serves u a) (keeps.rooms u a) (keeps.empty_rooms u s empty a)
 
@@ -55,10 +55,10 @@ module _ {A : Type 0} (m : UnitModel A) (sound : A → Type 0) (keeps : Keeps m 
   roomy-serves room Divide = refl
   roomy-serves room Transfer = refl
 
-  pub start_ties : (s : Stopped A) (u : A) → Sized s.machine → ClearCall m sound s.unit u
-      → Tied m sound (m.serves s.unit) (m.stay s.unit) (begun s.machine s.line (m.room u)) u
+  pub start_ties : (s : Stopped A) (u : A) → Sized s.machine → ClearCall m s.unit u
+      → Tied m (m.serves s.unit) (m.stay s.unit) (begun s.machine s.line (m.room u)) u
   start_ties s u sized call =
-      nothing_in_flight m sound (m.serves s.unit) (m.stay s.unit) (begun s.machine s.line (m.room u)) u
+      nothing_in_flight m (m.serves s.unit) (m.stay s.unit) (begun s.machine s.line (m.room u)) u
       (record {
         registers = sized;
         entries = refl;

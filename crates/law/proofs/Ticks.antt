@@ -25,32 +25,32 @@ use Rattle.law.proofs.Rank.{DueWithin, Within, done, held, waiting, empty, nothi
 is_done : {X : Type 0} (j : Judgement) (o : Option Judgement) → o ≡ None → o ≡ Some j → X
 is_done j o e f = let z : ◌≡◌ {A = ℕ} 0 1 = cc in absurd (omega arith)
 
-module _ {A : Type 0} (m : UnitModel A) (sound : A → Type 0) (keeps : Keeps m sound) (served : Class → Bool) (stay : ℕ)
-    (c : Core) (u : A) (h : Tied m sound served stay c u) where
+module _ {A : Type 0} (m : UnitModel A) (keeps : Keeps m) (served : Class → Bool) (stay : ℕ)
+    (c : Core) (u : A) (h : Tied m served stay c u) where
   -- dispatch -----------------------------------------------------------------------------------
 
-  module _ (u' : A) (j : Job) (is : goes (m.room u) c.buffer.head c.stations.places ≡ Some j) (call : TakeCall m sound u j u') where
+  module _ (u' : A) (j : Job) (is : goes (m.room u) c.buffer.head c.stations.places ≡ Some j) (call : TakeCall m u j u') where
     taken : (t : ℕ) → (t ≡ j.tag → ⊥) → (k : Held) → m.held u t ≡ Some k → Stays 0 k (m.held u' t)
-    taken t other k was = stays-held 0 (m.held u t) (m.held u' t) k ((takes m sound served stay c u u' j h is call).0.others t other) was
+    taken t other k was = stays-held 0 (m.held u t) (m.held u' t) k ((takes m served stay c u u' j h is call).0.others t other) was
 
     pub dispatch-within : (low gap n : ℕ) → Within m stay low gap c u n → Within m stay 1 gap (sent j c) u' n
     dispatch-within low gap n (done i some at le) = done i some at le
     dispatch-within low gap n (held k some at le) =
-        let from = sender m sound served stay c u u' j h is call in
+        let from = sender m served stay c u u' j h is call in
         let other : slot_at c.buffer 0 ≡ j.tag → ⊥ = λ e.
         not_held k (m.held u from.station.tag) from.free
         (ap (m.held u) (sym (job-tag from.station j from.job) ∙ sym e) ∙ at) in
         let stays = taken (slot_at c.buffer 0) other k at in
         held stays.held some stays.is (omega (arith, stays.due, le))
     dispatch-within low gap n (waiting longest some at l dues le) =
-        let first = head_goes m sound keeps served stay c u h at j is in
-        let took = takes m sound served stay c u u' j h is call in
+        let first = head_goes m keeps served stay c u h at j is in
+        let took = takes m served stay c u u' j h is call in
         let k = holds_it j (m.held u' j.tag) took.0.joins in
         let now : m.held u' (slot_at c.buffer 0) ≡ Some k.0 = ap (m.held u') (sym first) ∙ k.1 in
         held k.0 some now
         (omega (arith, le, (keeps.dues u' took.1 (slot_at c.buffer 0) k.0 now).1, call.same.stay, h.shaped.stays))
     dispatch-within low gap n (empty none le) =
-        absurd (omega (arith, (sender m sound served stay c u u' j h is call).tied.asked.below, none))
+        absurd (omega (arith, (sender m served stay c u u' j h is call).tied.asked.below, none))
 
   -- where nothing goes, something is held
   pub dispatch-refused : (gap n : ℕ) → goes (m.room u) c.buffer.head c.stations.places ≡ None
@@ -58,7 +58,7 @@ module _ {A : Type 0} (m : UnitModel A) (sound : A → Type 0) (keeps : Keeps m 
   dispatch-refused gap n none (done j some at le) = done j some at le
   dispatch-refused gap n none (held k some at le) = held k some at le
   dispatch-refused gap n none (waiting zero some at l dues le) =
-      absurd (goes_with_room m sound keeps served stay c u h at (room_when_empty m sound keeps served stay c u h at nothing) none)
+      absurd (goes_with_room m keeps served stay c u h at (room_when_empty m keeps served stay c u h at nothing) none)
     where
       nothing : Empty m u
       nothing t = by (m.held u t) refl
@@ -77,18 +77,18 @@ module _ {A : Type 0} (m : UnitModel A) (sound : A → Type 0) (keeps : Keeps m 
       done j (omega arith) (ap (λ (y : Entry). y.result) (pushed_old c.buffer (new_entry c) 0 some left) ∙ at) le
   issue-within gap n left free g (held k some at le) = held k (omega arith) at le
   issue-within gap n left free g (waiting longest some at l dues le) =
-      waiting longest (omega arith) (still_in m sound served stay c u h left (asked c) (slot_at c.buffer 0) at) l dues le
+      waiting longest (omega arith) (still_in m served stay c u h left (asked c) (slot_at c.buffer 0) at) l dues le
   issue-within gap n left free g (empty none le) = by (entry_at (pushed (new_entry c) c.buffer) 0).result refl
     where
       by : (o : Option Judgement) → (entry_at (pushed (new_entry c) c.buffer) 0).result ≡ o → Within m stay 1 3 (issued c) u n
       by (Some j) is = done j (omega arith) is (omega (arith, le, g))
       by None is =
-          let after = issue-keeps m sound served stay c u h left free in
+          let after = issue-keeps m served stay c u h left free in
           elim (after.work.somewhere 0 (omega arith) is) [
             | inl at ↦
                 waiting 1 (omega arith) at (omega arith)
-                (λ t k was. not_held k (m.held u t) (nothing_held m sound keeps served stay c u h none t) was) (omega (arith, le, g))
-            | inr k ↦ not_held k.0 (m.held u (slot_at c.buffer 0)) (nothing_held m sound keeps served stay c u h none (slot_at c.buffer 0)) k.1
+                (λ t k was. not_held k (m.held u t) (nothing_held m keeps served stay c u h none t) was) (omega (arith, le, g))
+            | inr k ↦ not_held k.0 (m.held u (slot_at c.buffer 0)) (nothing_held m keeps served stay c u h none (slot_at c.buffer 0)) k.1
           ]
 
   -- with nothing in flight there is a free station
@@ -101,7 +101,7 @@ module _ {A : Type 0} (m : UnitModel A) (sound : A → Type 0) (keeps : Keeps m 
 
   -- complete -------------------------------------------------------------------------------------
 
-  module _ (u' : A) (call : StepCall m sound u true u') where
+  module _ (u' : A) (call : StepCall m u true u') where
     stepped : (t : ℕ) → Moved true (offers_tag (m.offer u) t) (m.held u t) (m.held u' t)
     stepped = (call.stepped h.shaped.sounds).0
 

@@ -88,7 +88,7 @@ module _ (served : Class → Bool) where
       pub a : j.a ≡ register_of (ahead served x index) instruction.rs1
       pub b : j.b ≡ register_of (ahead served x index) instruction.rs2
 
-module _ {A : Type 0} (m : UnitModel A) (sound : A → Type 0) (served : Class → Bool) (stay : ℕ) where
+module _ {A : Type 0} (m : UnitModel A) (served : Class → Bool) (stay : ℕ) where
   -- a unit holds a job under a tag
   abbrev pub HeldUnder : A → ℕ → Type 0
   HeldUnder u t = (h : Held) × (m.held u t ≡ Some h)
@@ -104,7 +104,7 @@ module _ {A : Type 0} (m : UnitModel A) (sound : A → Type 0) (served : Class �
     pub knows : (a : Class) → serves c.served a ≡ served a
     pub serves : (a : Class) → m.serves u a ≡ served a
     pub stays : m.stay u ≡ stay
-    pub sounds : sound u
+    pub sounds : m.sound u
 
   -- the entries are those of the plan, and so is the address of the next
   pub record EntriesTied (x : Machine) (b : Buffer) (at : ℕ) : Type 0 where

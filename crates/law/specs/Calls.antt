@@ -26,15 +26,15 @@ abbrev pub record_of : Result Record RetireFault → Option Record
 record_of (Ok r) = Some r
 record_of (Err f) = None
 
-module _ {A : Type 0} (m : UnitModel A) (sound : A → Type 0) where
+module _ {A : Type 0} (m : UnitModel A) where
   -- start clears the unit, and learns from its room what it serves
   pub record StartCall (s : Stopped A) (k : Running A) : Type 0 where
-    pub unit : ClearCall m sound s.unit k.unit
+    pub unit : ClearCall m s.unit k.unit
     pub core : k.core ≡ begun s.machine s.line (m.room k.unit)
 
   -- stop discards what is in flight, and keeps the rest
   pub record StopCall (k : Running A) (s : Stopped A) : Type 0 where
-    pub unit : ClearCall m sound k.unit s.unit
+    pub unit : ClearCall m k.unit s.unit
     pub machine : s.machine ≡ k.core.machine
     pub line : s.line ≡ k.core.line
 
@@ -55,7 +55,7 @@ module _ {A : Type 0} (m : UnitModel A) (sound : A → Type 0) where
 
   abbrev pub DispatchDoes : Option Job → Running A → Running A → Type 0
   DispatchDoes None k k' = k' ≡ k
-  DispatchDoes (Some j) k k' = (k'.core ≡ sent j k.core) × TakeCall m sound k.unit j k'.unit
+  DispatchDoes (Some j) k k' = (k'.core ≡ sent j k.core) × TakeCall m k.unit j k'.unit
 
   pub record DispatchCall (k : Running A) (answer : Result ℕ NoneGoes) (k' : Running A) : Type 0 where
     pub answers : answer ≡ dispatch_answer (going k)
@@ -67,13 +67,13 @@ module _ {A : Type 0} (m : UnitModel A) (sound : A → Type 0) where
   pub record CompleteCall (k : Running A) (answer : Option ℕ) (k' : Running A) : Type 0 where
     pub answers : answer ≡ complete_answer (m.offer k.unit)
     pub core : k'.core ≡ completed_by (m.offer k.unit) k.core
-    pub unit : StepCall m sound k.unit true k'.unit
+    pub unit : StepCall m k.unit true k'.unit
 
   -- retire ---------------------------------------------------------------------
 
   -- first whether the retirement diverts
   abbrev pub RetireMoves : Bool → Entry → Judgement → Running A → Running A → Type 0
-  RetireMoves true e j k k' = (k'.core ≡ flushed k.core e j) × ClearCall m sound k.unit k'.unit
+  RetireMoves true e j k k' = (k'.core ≡ flushed k.core e j) × ClearCall m k.unit k'.unit
   RetireMoves false e j k k' = (k'.core ≡ retired_on k.core e j) × (k'.unit ≡ k.unit)
 
   -- of the result of the oldest entry

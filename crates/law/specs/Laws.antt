@@ -126,14 +126,14 @@ module _ {A : Type 0} (m : UnitModel A) where
     pub runs : AllRunsKept (m.stay s.unit) es
 
 -- over every unit: of every past
-abbrev pub LawOfEveryPast : {A : Type 0} → UnitModel A → (A → Type 0) → Type 0
-LawOfEveryPast {A} m sound = (s : Stopped A) (es : List Event) (k : Running A) → Past m sound s es k → Law m s es k
+abbrev pub LawOfEveryPast : {A : Type 0} → UnitModel A → Type 0
+LawOfEveryPast {A} m = (s : Stopped A) (es : List Event) (k : Running A) → Past m s es k → Law m s es k
 
 -- of one call: it extends every past of the core at its entry, and the law holds of the past at its exit
-abbrev pub Extends : {A : Type 0} → UnitModel A → (A → Type 0) → Running A → Event → Running A → Type 0
-Extends {A} m sound k e k' =
-    (s : Stopped A) (es : List Event) → Past m sound s es k → Past m sound s (e ∷ es) k' × Law m s (e ∷ es) k'
+abbrev pub Extends : {A : Type 0} → UnitModel A → Running A → Event → Running A → Type 0
+Extends {A} m k e k' =
+    (s : Stopped A) (es : List Event) → Past m s es k → Past m s (e ∷ es) k' × Law m s (e ∷ es) k'
 
 -- of start: a past begins
-abbrev pub Begins : {A : Type 0} → UnitModel A → (A → Type 0) → Stopped A → Running A → Type 0
-Begins m sound s k = Past m sound s [] k × Law m s [] k
+abbrev pub Begins : {A : Type 0} → UnitModel A → Stopped A → Running A → Type 0
+Begins m s k = Past m s [] k × Law m s [] k

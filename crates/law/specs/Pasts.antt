@@ -31,19 +31,19 @@ abbrev pub line_set : Bool → Event
 line_set true = raise
 line_set false = drop
 
-module _ {A : Type 0} (m : UnitModel A) (sound : A → Type 0) where
+module _ {A : Type 0} (m : UnitModel A) where
   -- what a call does, by its event
   abbrev pub EventCall : Event → Running A → Running A → Type 0
-  EventCall (issue a) k k' = IssueCall m sound k a k'
-  EventCall (dispatch a) k k' = DispatchCall m sound k a k'
-  EventCall (complete a) k k' = CompleteCall m sound k a k'
-  EventCall (retire a) k k' = RetireCall m sound k a k'
-  EventCall (cycle a) k k' = CycleCall m sound k a k'
-  EventCall (run wanted budget cycles retirements) k k' = RunCall m sound wanted budget cycles retirements k k'
-  EventCall raise k k' = LineCall m sound true k k'
-  EventCall drop k k' = LineCall m sound false k k'
+  EventCall (issue a) k k' = IssueCall m k a k'
+  EventCall (dispatch a) k k' = DispatchCall m k a k'
+  EventCall (complete a) k k' = CompleteCall m k a k'
+  EventCall (retire a) k k' = RetireCall m k a k'
+  EventCall (cycle a) k k' = CycleCall m k a k'
+  EventCall (run wanted budget cycles retirements) k k' = RunCall m wanted budget cycles retirements k k'
+  EventCall raise k k' = LineCall m true k k'
+  EventCall drop k k' = LineCall m false k k'
 
   -- the calls that led from a stopped core to a running one, newest first
   pub data Past (s : Stopped A) : List Event → Running A → Type 0 where
-    started : {k : Running A} → Sized s.machine → StartCall m sound s k → Past s [] k
+    started : {k : Running A} → Sized s.machine → StartCall m s k → Past s [] k
     called : {e : Event} {es : List Event} {k k' : Running A} → Past s es k → EventCall e k k' → Past s (e ∷ es) k'

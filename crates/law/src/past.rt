@@ -6,5 +6,5 @@ use units::unit::Unit;
 // After any calls on a running core: same state and same records as the sequential machine, a retirement within the
 // longest wait, and runs that make what is wanted.
 pub fn law_of_every_past<U: Unit>(_unit: &U)
-    ensures { LawOfEveryPast U.Unit.means U.Unit.sound }
+    ensures { LawOfEveryPast U.Unit.means }
 {}

@@ -30,14 +30,14 @@ pub(crate) fn rooms<U: Unit>(unit: &U) -> Classes
 }
 
 pub(crate) fn issue<U: Unit>(running: &mut Running<U>) -> Result<u8, IssueFault>
-    ensures { IssueCall U.Unit.means U.Unit.sound running.old result running.new }
+    ensures { IssueCall U.Unit.means running.old result running.new }
 {
     flight::issue(&mut running.core)
 }
 
 // The oldest job that may go to the unit.
 fn next_job<U: Unit>(running: &Running<U>) -> Option<Job>
-    ensures { result ≡ going U.Unit.means U.Unit.sound running.now }
+    ensures { result ≡ going U.Unit.means running.now }
 {
     let room = rooms(&running.unit);
     let head = running.core.buffer.head();
@@ -45,7 +45,7 @@ fn next_job<U: Unit>(running: &Running<U>) -> Option<Job>
 }
 
 pub(crate) fn dispatch<U: Unit>(running: &mut Running<U>) -> Result<u8, NoneGoes>
-    ensures { DispatchCall U.Unit.means U.Unit.sound running.old result running.new }
+    ensures { DispatchCall U.Unit.means running.old result running.new }
 {
     let Some(job) = next_job(running) else {
         return Err(NoneGoes {});
@@ -58,7 +58,7 @@ pub(crate) fn dispatch<U: Unit>(running: &mut Running<U>) -> Result<u8, NoneGoes
 
 // The unit steps, accepted, whether it offers or not.
 pub(crate) fn complete<U: Unit>(running: &mut Running<U>) -> Option<u8>
-    ensures { CompleteCall U.Unit.means U.Unit.sound running.old result running.new }
+    ensures { CompleteCall U.Unit.means running.old result running.new }
 {
     let offer = running.unit.offer();
     running.unit.step(true);
@@ -68,7 +68,7 @@ pub(crate) fn complete<U: Unit>(running: &mut Running<U>) -> Option<u8>
 }
 
 pub(crate) fn retire<U: Unit>(running: &mut Running<U>) -> Result<Record, RetireFault>
-    ensures { RetireCall U.Unit.means U.Unit.sound running.old result running.new }
+    ensures { RetireCall U.Unit.means running.old result running.new }
 {
     let Some(entry) = running.core.buffer.oldest() else {
         return Err(RetireFault::Empty);
@@ -86,7 +86,7 @@ pub(crate) fn retire<U: Unit>(running: &mut Running<U>) -> Result<Record, Retire
 
 // Inner refusals are no refusal of the cycle.
 pub(crate) fn cycle<U: Unit>(running: &mut Running<U>) -> Option<Record>
-    ensures { CycleCall U.Unit.means U.Unit.sound running.old result running.new }
+    ensures { CycleCall U.Unit.means running.old result running.new }
 {
     let retirement = retire(running);
     complete(running);
@@ -96,7 +96,7 @@ pub(crate) fn cycle<U: Unit>(running: &mut Running<U>) -> Option<Record>
 }
 
 pub(crate) fn set_line<U: Unit>(running: &mut Running<U>, up: bool)
-    ensures { LineCall U.Unit.means U.Unit.sound up running.old running.new }
+    ensures { LineCall U.Unit.means up running.old running.new }
 {
     running.core.line = up;
 }
@@ -109,7 +109,7 @@ fn reported(answer: Option<Record>) -> u64
 }
 
 pub(crate) fn run<U: Unit>(running: &mut Running<U>, wanted: u64, budget: u64) -> Ran
-    ensures { RunCall U.Unit.means U.Unit.sound wanted budget result.cycles result.retirements running.old running.new }
+    ensures { RunCall U.Unit.means wanted budget result.cycles result.retirements running.old running.new }
 {
     let mut cycles = 0;
     let mut retirements = 0;

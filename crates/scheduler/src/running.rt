@@ -26,70 +26,70 @@ pub struct Ran {
 impl<U: Unit> Running<U> {
     // Takes the word at the fetch address, and answers its tag.
     pub fn issue(&mut self) -> Result<u8, IssueFault>
-        ensures outcome { IssueCall U.Unit.means U.Unit.sound self.old.state result self.new.state }
-        ensures past { Extends U.Unit.means U.Unit.sound self.old.state (issue result) self.new.state }
+        ensures outcome { IssueCall U.Unit.means self.old.state result self.new.state }
+        ensures past { Extends U.Unit.means self.old.state (issue result) self.new.state }
     {
         calls::issue(&mut self.state)
     }
 
     // Sends the oldest instruction that may go to the unit, and answers its tag.
     pub fn dispatch(&mut self) -> Result<u8, NoneGoes>
-        ensures outcome { DispatchCall U.Unit.means U.Unit.sound self.old.state result self.new.state }
-        ensures past { Extends U.Unit.means U.Unit.sound self.old.state (dispatch result) self.new.state }
+        ensures outcome { DispatchCall U.Unit.means self.old.state result self.new.state }
+        ensures past { Extends U.Unit.means self.old.state (dispatch result) self.new.state }
     {
         calls::dispatch(&mut self.state)
     }
 
     // Finishes the instruction that the unit offers, if any, and answers its tag.
     pub fn complete(&mut self) -> Option<u8>
-        ensures outcome { CompleteCall U.Unit.means U.Unit.sound self.old.state result self.new.state }
-        ensures past { Extends U.Unit.means U.Unit.sound self.old.state (complete result) self.new.state }
+        ensures outcome { CompleteCall U.Unit.means self.old.state result self.new.state }
+        ensures past { Extends U.Unit.means self.old.state (complete result) self.new.state }
     {
         calls::complete(&mut self.state)
     }
 
     // Makes one step of the machine with the oldest instruction, and answers its record.
     pub fn retire(&mut self) -> Result<Record, RetireFault>
-        ensures outcome { RetireCall U.Unit.means U.Unit.sound self.old.state result self.new.state }
-        ensures past { Extends U.Unit.means U.Unit.sound self.old.state (retire result) self.new.state }
+        ensures outcome { RetireCall U.Unit.means self.old.state result self.new.state }
+        ensures past { Extends U.Unit.means self.old.state (retire result) self.new.state }
     {
         calls::retire(&mut self.state)
     }
 
     // Retire, complete, dispatch, issue, once each.
     pub fn cycle(&mut self) -> Option<Record>
-        ensures outcome { CycleCall U.Unit.means U.Unit.sound self.old.state result self.new.state }
-        ensures past { Extends U.Unit.means U.Unit.sound self.old.state (cycle result) self.new.state }
+        ensures outcome { CycleCall U.Unit.means self.old.state result self.new.state }
+        ensures past { Extends U.Unit.means self.old.state (cycle result) self.new.state }
     {
         calls::cycle(&mut self.state)
     }
 
     // Makes cycles until it has the retirements wanted or has spent its budget.
     pub fn run(&mut self, wanted: u64, budget: u64) -> Ran
-        ensures outcome { RunCall U.Unit.means U.Unit.sound wanted budget result.cycles result.retirements self.old.state self.new.state }
-        ensures past { Extends U.Unit.means U.Unit.sound self.old.state (run wanted budget result.cycles result.retirements) self.new.state }
+        ensures outcome { RunCall U.Unit.means wanted budget result.cycles result.retirements self.old.state self.new.state }
+        ensures past { Extends U.Unit.means self.old.state (run wanted budget result.cycles result.retirements) self.new.state }
     {
         calls::run(&mut self.state, wanted, budget)
     }
 
     // Sets the interrupt line up or down.
     pub fn set_line(&mut self, up: bool)
-        ensures outcome { LineCall U.Unit.means U.Unit.sound up self.old.state self.new.state }
-        ensures past { Extends U.Unit.means U.Unit.sound self.old.state (line_set up) self.new.state }
+        ensures outcome { LineCall U.Unit.means up self.old.state self.new.state }
+        ensures past { Extends U.Unit.means self.old.state (line_set up) self.new.state }
     {
         calls::set_line(&mut self.state, up);
     }
 
     pub fn raise_line(&mut self)
-        ensures outcome { LineCall U.Unit.means U.Unit.sound true self.old.state self.new.state }
-        ensures past { Extends U.Unit.means U.Unit.sound self.old.state raise self.new.state }
+        ensures outcome { LineCall U.Unit.means true self.old.state self.new.state }
+        ensures past { Extends U.Unit.means self.old.state raise self.new.state }
     {
         self.set_line(true);
     }
 
     pub fn drop_line(&mut self)
-        ensures outcome { LineCall U.Unit.means U.Unit.sound false self.old.state self.new.state }
-        ensures past { Extends U.Unit.means U.Unit.sound self.old.state drop self.new.state }
+        ensures outcome { LineCall U.Unit.means false self.old.state self.new.state }
+        ensures past { Extends U.Unit.means self.old.state drop self.new.state }
     {
         self.set_line(false);
     }
@@ -110,7 +110,7 @@ impl<U: Unit> Running<U> {
 
     // Discards what is in flight; registers, pc, trap state, program and line stay.
     pub fn stop(self) -> Stopped<U>
-        ensures { StopCall U.Unit.means U.Unit.sound self.state result.state }
+        ensures { StopCall U.Unit.means self.state result.state }
     {
         let law::state::Running { core, mut unit } = self.state;
         unit.clear();

@@ -74,7 +74,7 @@ impl<U: Unit> Stopped<U> {
 
     // With nothing in flight, fetching from pc.
     fn begin(self) -> Running<U>
-        ensures outcome { StartCall U.Unit.means U.Unit.sound self.state result.state }
+        ensures outcome { StartCall U.Unit.means self.state result.state }
         ensures sized { Sized self.state.machine }
     {
         // a past begins with 32 registers: the array's type says so here
@@ -104,8 +104,8 @@ impl<U: Unit> Stopped<U> {
     }
 
     pub fn start(self) -> Running<U>
-        ensures outcome { StartCall U.Unit.means U.Unit.sound self.state result.state }
-        ensures past { Begins U.Unit.means U.Unit.sound self.state result.state }
+        ensures outcome { StartCall U.Unit.means self.state result.state }
+        ensures past { Begins U.Unit.means self.state result.state }
     {
         self.begin()
     }

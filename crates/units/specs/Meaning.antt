@@ -13,7 +13,9 @@ pub record Held : Type 0 where
   pub due : ℕ
 
 -- a unit by what can be asked of it
-pub record UnitModel (A : Type 0) : Type 0 where
+pub record UnitModel (A : Type 0) : Type 1 where
+  -- since the last clear no tag was taken while it was held; of any other unit nothing is promised
+  pub sound : A → Type 0
   -- its classes, and its longest stay: both stay as they are
   pub serves : A → Class → Bool
   pub stay : A → ℕ
@@ -84,9 +86,9 @@ pub record Joined {A : Type 0} (m : UnitModel A) (u : A) (j : Job) (u' : A) : Ty
   pub others : (t : ℕ) → (t ≢ j.tag) → Fell 0 (m.held u t) (m.held u' t)
 
 -- without room: the unit is what it was
-abbrev pub Taken : {A : Type 0} → UnitModel A → (A → Type 0) → Bool → A → Job → A → Type 0
-Taken m sound true u j u' = sound u → m.held u j.tag ≡ None → Joined m u j u' × sound u'
-Taken m sound false u j u' = u' ≡ u
+abbrev pub Taken : {A : Type 0} → UnitModel A → Bool → A → Job → A → Type 0
+Taken m true u j u' = m.sound u → m.held u j.tag ≡ None → Joined m u j u' × m.sound u'
+Taken m false u j u' = u' ≡ u
 
 -- whether a tag is the offered one
 abbrev pub offers_tag : Option Offer → ℕ → Bool

@@ -15,12 +15,12 @@ OffersJob m u j = (o : Offer) × (m.offer u ≡ Some o) × (o.tag ≡ j.tag) × 
 abbrev pub Fresh : {A : Type 0} → UnitModel A → A → Job → Type 0
 Fresh m u j = room_for m u j.word ≡ true → m.held u j.tag ≡ None
 
-module _ {A : Type 0} (m : UnitModel A) (sound : A → Type 0) where
+module _ {A : Type 0} (m : UnitModel A) where
   -- Calls from one state of the unit to another. A take may be refused, and a step unaccepted.
   pub data Run : A → A → Type 0 where
     end : {u : A} → Run u u
-    take : {u v w : A} (j : Job) → Fresh m u j → TakeCall m sound u j v → Run v w → Run u w
-    step : {u v w : A} (accepted : Bool) → StepCall m sound u accepted v → Run v w → Run u w
+    take : {u v w : A} (j : Job) → Fresh m u j → TakeCall m u j v → Run v w → Run u w
+    step : {u v w : A} (accepted : Bool) → StepCall m u accepted v → Run v w → Run u w
 
   abbrev pub accepted_steps : {u w : A} → Run u w → ℕ
   accepted_steps end = 0
@@ -39,5 +39,5 @@ module _ {A : Type 0} (m : UnitModel A) (sound : A → Type 0) where
   -- longest stay, whatever else is taken or refused meanwhile.
   abbrev pub OfferedWithinStay : Type 0
   OfferedWithinStay =
-      (u v w : A) (j : Job) → sound u → room_for m u j.word ≡ true → m.held u j.tag ≡ None → TakeCall m sound u j v
+      (u v w : A) (j : Job) → m.sound u → room_for m u j.word ≡ true → m.held u j.tag ≡ None → TakeCall m u j v
       → (run : Run v w) → m.stay u ≤ accepted_steps run → Delivers run j

@@ -5,5 +5,5 @@ use crate::unit::Unit;
 
 // Any job taken is offered within the longest stay: a law over every run of every unit.
 pub fn offered_within_stay<U: Unit>(_unit: &U)
-    ensures { OfferedWithinStay U.Unit.means U.Unit.sound }
+    ensures { OfferedWithinStay U.Unit.means }
 {}

@@ -10,29 +10,26 @@ use refusal::NoRoom;
 pub trait Unit {
     ghost means: { UnitModel Self };
 
-    // Since the last clear no tag was taken while it was held; of any other unit nothing is promised.
-    ghost sound: { Self → Type 0 };
-
     fn room(&self, class: Class) -> bool
         ensures { result ≡ means.room self.now class };
 
     fn take(&mut self, job: Job) -> Result<(), NoRoom>
         ensures answer { result ≡ take_answer (room_for means self.old job.word) }
         ensures same { Same means self.old self.new }
-        ensures taken { Taken means sound (room_for means self.old job.word) self.old job self.new };
+        ensures taken { Taken means (room_for means self.old job.word) self.old job self.new };
 
     fn offer(&self) -> Option<Offer>
         ensures { result ≡ means.offer self.now };
 
     fn step(&mut self, accepted: bool)
         ensures same { Same means self.old self.new }
-        ensures stepped { sound self.old → Stepped means self.old accepted self.new × sound self.new };
+        ensures stepped { means.sound self.old → Stepped means self.old accepted self.new × means.sound self.new };
 
     fn clear(&mut self)
         ensures same { Same means self.old self.new }
         ensures empty { Empty means self.new }
-        ensures sound { sound self.new };
+        ensures sound { means.sound self.new };
 
     // what every unit keeps
-    ghost laws: { Keeps means sound };
+    ghost laws: { Keeps means };
 }

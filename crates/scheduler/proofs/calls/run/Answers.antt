@@ -7,18 +7,17 @@ pub loop-retirements-preserved : goal.loop-retirements-preserved
 loop-retirements-preserved g c =
     let l = c.loop-retirements in
     let m = g.U.Unit.means in
-    let sound = g.U.Unit.sound in
-    subst (λ (n : ℕ). SoFar m sound c.args.wanted c.args.budget (l.cycles + 1) (l.retirements + n) c.args.running.now c.cycle.new.running)
+    subst (λ (n : ℕ). SoFar m c.args.wanted c.args.budget (l.cycles + 1) (l.retirements + n) c.args.running.now c.cycle.new.running)
     (sym c.reported-retirements.ensures.count)
-    (one_more m sound c.args.wanted c.args.budget l.cycles l.retirements c.args.running.now l.running c.cycle.new.running
+    (one_more m c.args.wanted c.args.budget l.cycles l.retirements c.args.running.now l.running c.cycle.new.running
     c.cycle.result l.invariant (omega arith) (omega arith) c.cycle.ensures)
 
 pub returns-else-cycles-budget : goal.returns-else-cycles-budget
 returns-else-cycles-budget g c =
     let l = c.loop-retirements in
-    ends-spent g.U.Unit.means g.U.Unit.sound c.args.wanted c.args.budget l.cycles l.retirements c.args.running.now l.running l.invariant (omega arith)
+    ends-spent g.U.Unit.means c.args.wanted c.args.budget l.cycles l.retirements c.args.running.now l.running l.invariant (omega arith)
 
 pub returns-after-loop-retirements : goal.returns-after-loop-retirements
 returns-after-loop-retirements g c =
     let l = c.loop-retirements in
-    ends-done g.U.Unit.means g.U.Unit.sound c.args.wanted c.args.budget l.cycles l.retirements c.args.running.now l.running l.invariant (omega arith)
+    ends-done g.U.Unit.means c.args.wanted c.args.budget l.cycles l.retirements c.args.running.now l.running l.invariant (omega arith)

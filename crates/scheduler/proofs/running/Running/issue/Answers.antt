@@ -5,4 +5,4 @@ use Rattle.scheduler.proofs.running.Running.issue.Goals as goal
 
 pub returns-clause-past : goal.returns-clause-past
 returns-clause-past g c =
-    call-extends g.U.Unit.means g.U.Unit.sound g.met.U.Unit.laws (issue c.issue.result) c.args.self.now.state c.issue.new.running c.issue.ensures
+    call-extends g.U.Unit.means g.met.U.Unit.laws (issue c.issue.result) c.args.self.now.state c.issue.new.running c.issue.ensures

@@ -5,4 +5,4 @@ use Rattle.scheduler.proofs.running.Running.retire.Goals as goal
 
 pub returns-clause-past : goal.returns-clause-past
 returns-clause-past g c =
-    call-extends g.U.Unit.means g.U.Unit.sound g.met.U.Unit.laws (retire c.retire.result) c.args.self.now.state c.retire.new.running c.retire.ensures
+    call-extends g.U.Unit.means g.met.U.Unit.laws (retire c.retire.result) c.args.self.now.state c.retire.new.running c.retire.ensures

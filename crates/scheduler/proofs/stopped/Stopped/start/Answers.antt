@@ -4,4 +4,4 @@ use Rattle.scheduler.proofs.stopped.Stopped.start.Goals as goal
 
 pub returns-clause-past : goal.returns-clause-past
 returns-clause-past g c =
-    start_begins g.U.Unit.means g.U.Unit.sound g.met.U.Unit.laws c.args.self.state c.begin.result.state c.begin.ensures.sized c.begin.ensures.outcome
+    start_begins g.U.Unit.means g.met.U.Unit.laws c.args.self.state c.begin.result.state c.begin.ensures.sized c.begin.ensures.outcome
