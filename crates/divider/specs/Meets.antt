@@ -10,6 +10,7 @@ use Rattle.units.specs.declared.job.Job.{Job}
 use Rattle.units.specs.declared.job.Offer.{Offer}
 use Rattle.units.specs.Jobs.{word_class, job_outcome}
 use Rattle.units.specs.Meaning.{Held, Fell, Moved, room_in, room_for, take_answer, Taken, Stepped}
+use Rattle.units.specs.Calls.{Keeps}
 use Rattle.divider.specs.declared.Divider.{Divider}
 use Rattle.divider.specs.declared.division.Division.{Division}
 use Rattle.divider.specs.declared.working.Working.{Working as Work}
@@ -137,7 +138,7 @@ step_meets accepted u sound = steps accepted u.state sound
 abbrev Within : State → Type 0
 Within s = (t : ℕ) (h : Held) → held_in s t ≡ Some h → (1 ≤ h.due) × (h.due ≤ 33)
 
-pub within : (s : State) → Within s
+within : (s : State) → Within s
 within Idle t h e = some_none h e
 within (Working w) t h e =
     let short = w.short in
@@ -154,12 +155,12 @@ under_tag job due t h e =
     let same = one.1 in
     cc
 
-pub tagged : (s : State) (t : ℕ) (h : Held) → held_in s t ≡ Some h → h.job.tag ≡ t
+tagged : (s : State) (t : ℕ) (h : Held) → held_in s t ≡ Some h → h.job.tag ≡ t
 tagged Idle t h e = some_none h e
 tagged (Working w) t h e = under_tag w.job (33 - w.steps) t h e
 tagged (Finished f) t h e = under_tag f.job 1 t h e
 
-pub offered : (s : State) → SoundState s → (o : Offer) → offer_of s ≡ Some o
+offered : (s : State) → SoundState s → (o : Offer) → offer_of s ≡ Some o
     → (h : Held) × (held_in s o.tag ≡ Some h) × (job_outcome h.job ≡ Some o.outcome)
 offered Idle sound o e = some_none o e
 offered (Working w) sound o e = some_none o e
@@ -170,7 +171,7 @@ offered (Finished f) sound o e =
     subst (λ (o : Offer). (h : Held) × (held_in (Finished f) o.tag ≡ Some h) × (job_outcome h.job ≡ Some o.outcome)) same
     (record { job = f.job; due = 1 }, held, sound)
 
-pub roomy : (s : State) (c : Class) → room_of s c ≡ true → is_divide c ≡ true
+roomy : (s : State) (c : Class) → room_of s c ≡ true → is_divide c ≡ true
 roomy Idle c e = e
 roomy (Working w) c e = cc
 roomy (Finished f) c e = cc
@@ -179,7 +180,17 @@ roomy (Finished f) c e = cc
 found : {P : Type 0} (job : Job) (due : ℕ) → held_under job due job.tag ≡ None → P
 found job due e = some_none (record { job = job; due = due }) (sym (rw (own_tag job) at e))
 
-pub empty-roomy : (s : State) → ((t : ℕ) → held_in s t ≡ None) → (c : Class) → is_divide c ≡ true → room_of s c ≡ true
+empty-roomy : (s : State) → ((t : ℕ) → held_in s t ≡ None) → (c : Class) → is_divide c ≡ true → room_of s c ≡ true
 empty-roomy Idle none c e = e
 empty-roomy (Working w) none c e = found w.job (33 - w.steps) (none w.job.tag)
 empty-roomy (Finished f) none c e = found f.job 1 (none f.job.tag)
+
+pub keeps : Keeps model Sound
+keeps = record {
+  stays = λ u. omega arith;
+  dues = λ u sound. within u.state;
+  tags = λ u sound. tagged u.state;
+  offers = λ u. offered u.state;
+  rooms = λ u. roomy u.state;
+  empty_rooms = λ u sound. empty-roomy u.state;
+}

@@ -9,8 +9,7 @@ ghost use Rattle.std.specs.Prelude.{◌≡◌};
 ghost use Rattle.units.specs.Meaning.{Same, room_for, take_answer, Taken, Stepped, Empty};
 ghost use Rattle.divider.specs.States.{idle, took_in, stepped_in};
 ghost use Rattle.divider.specs.Model.{model, Sound};
-ghost use Rattle.std.proofs.Common.{arith};
-ghost use Rattle.divider.specs.Meets.{within, tagged, offered, roomy, empty-roomy};
+ghost use Rattle.divider.specs.Meets.{keeps};
 
 use isa::operation::Class;
 use isa::outcome::Outcome;
@@ -44,17 +43,7 @@ impl Unit for Divider {
 
     ghost sound = { Sound };
 
-    ghost stays = { λ u. omega arith };
-
-    ghost dues = { λ u sound. within u.state };
-
-    ghost tags = { λ u sound. tagged u.state };
-
-    ghost offers = { λ u sound. offered u.state sound };
-
-    ghost rooms = { λ u. roomy u.state };
-
-    ghost empty_rooms = { λ u sound none. empty-roomy u.state none };
+    ghost laws = { keeps };
 
     fn room(&self, class: Class) -> bool {
         match (self.state, class) {

@@ -9,11 +9,6 @@ use Rattle.join.specs.declared.Join.{Join}
 use Rattle.join.specs.Joined.{offered, doubled_due, doubled, side_held, first_of, join_means, Sound}
 use Rattle.join.specs.Tags.{by_side, apart_right, first_empty}
 
--- a unit's laws as one record
-pub kept : {A : Type 0} {m : UnitModel A} {sound : A → Type 0} → ((u : A) → 1 ≤ m.stay u) → ((u : A) → sound u → Dues m u) → ((u : A) → sound u → Tags m u)
-    → ((u : A) → sound u → Offers m u) → ((u : A) → Rooms m u) → ((u : A) → sound u → EmptyRooms m u) → Keeps m sound
-kept s d t o r e = record { stays = s; dues = d; tags = t; offers = o; rooms = r; empty_rooms = e }
-
 -- a due of a side, at most n, in the join
 due-within : (turn : Bool) (d n most : ℕ) → (1 ≤ d) × (d ≤ n) → n ≤ most → (1 ≤ doubled_due turn d) × (doubled_due turn d ≤ 2 * most)
 due-within true d n most h le = (omega (arith, h.0), omega (arith, h.1))

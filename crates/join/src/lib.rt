@@ -6,7 +6,7 @@ ghost use Rattle.units.specs.Meaning.{Same, Empty, room_for, take_answer};
 ghost use Rattle.units.specs.Runs.{OfferedWithinStay};
 ghost use Rattle.join.specs.Joined.{joined, join_means, Sound, contested};
 ghost use Rattle.join.specs.Sides.{JoinTaken, JoinStepped, SidesTake, SidesStep, SidesClear};
-ghost use Rattle.join.specs.Keeps.{join_keeps, kept};
+ghost use Rattle.join.specs.Keeps.{join_keeps};
 
 use isa::operation::Class;
 use refusal::NoRoom;
@@ -70,29 +70,7 @@ impl<A: Unit, B: Unit> Unit for Join<A, B> {
 
     ghost sound = { Sound A.Unit.means B.Unit.means A.Unit.sound B.Unit.sound };
 
-    ghost stays = { (join_keeps A.Unit.means B.Unit.means A.Unit.sound B.Unit.sound
-        (kept A.Unit.stays A.Unit.dues A.Unit.tags A.Unit.offers A.Unit.rooms A.Unit.empty_rooms)
-        (kept B.Unit.stays B.Unit.dues B.Unit.tags B.Unit.offers B.Unit.rooms B.Unit.empty_rooms)).stays };
-
-    ghost dues = { (join_keeps A.Unit.means B.Unit.means A.Unit.sound B.Unit.sound
-        (kept A.Unit.stays A.Unit.dues A.Unit.tags A.Unit.offers A.Unit.rooms A.Unit.empty_rooms)
-        (kept B.Unit.stays B.Unit.dues B.Unit.tags B.Unit.offers B.Unit.rooms B.Unit.empty_rooms)).dues };
-
-    ghost tags = { (join_keeps A.Unit.means B.Unit.means A.Unit.sound B.Unit.sound
-        (kept A.Unit.stays A.Unit.dues A.Unit.tags A.Unit.offers A.Unit.rooms A.Unit.empty_rooms)
-        (kept B.Unit.stays B.Unit.dues B.Unit.tags B.Unit.offers B.Unit.rooms B.Unit.empty_rooms)).tags };
-
-    ghost offers = { (join_keeps A.Unit.means B.Unit.means A.Unit.sound B.Unit.sound
-        (kept A.Unit.stays A.Unit.dues A.Unit.tags A.Unit.offers A.Unit.rooms A.Unit.empty_rooms)
-        (kept B.Unit.stays B.Unit.dues B.Unit.tags B.Unit.offers B.Unit.rooms B.Unit.empty_rooms)).offers };
-
-    ghost rooms = { (join_keeps A.Unit.means B.Unit.means A.Unit.sound B.Unit.sound
-        (kept A.Unit.stays A.Unit.dues A.Unit.tags A.Unit.offers A.Unit.rooms A.Unit.empty_rooms)
-        (kept B.Unit.stays B.Unit.dues B.Unit.tags B.Unit.offers B.Unit.rooms B.Unit.empty_rooms)).rooms };
-
-    ghost empty_rooms = { (join_keeps A.Unit.means B.Unit.means A.Unit.sound B.Unit.sound
-        (kept A.Unit.stays A.Unit.dues A.Unit.tags A.Unit.offers A.Unit.rooms A.Unit.empty_rooms)
-        (kept B.Unit.stays B.Unit.dues B.Unit.tags B.Unit.offers B.Unit.rooms B.Unit.empty_rooms)).empty_rooms };
+    ghost laws = { join_keeps A.Unit.means B.Unit.means A.Unit.sound B.Unit.sound A.Unit.laws B.Unit.laws };
 
     fn room(&self, class: Class) -> bool {
         self.left.room(class) || self.right.room(class)

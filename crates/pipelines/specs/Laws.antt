@@ -9,6 +9,7 @@ use Rattle.units.specs.declared.job.Job.{Job}
 use Rattle.units.specs.declared.job.Offer.{Offer}
 use Rattle.units.specs.Jobs.{word_class, job_outcome}
 use Rattle.units.specs.Meaning.{Held, UnitModel, Dues, Tags, Offers, Rooms, EmptyRooms, Same, room_in, Fell, Holds, Moved, offers_tag, Taken, Stepped}
+use Rattle.units.specs.Calls.{Keeps}
 use Rattle.units.proofs.Classed.{classed_outcome}
 use Rattle.pipelines.specs.declared.queue.Timed.{Timed}
 use Rattle.pipelines.specs.Queues.{pushed, stepped}
@@ -56,25 +57,35 @@ module _ {A : Type 0} (L N : ℕ) (serves : Class → Bool) (jobs : A → List T
   abbrev unit : UnitModel A
   unit = pipeline L N serves jobs
 
-  pub dues : (u : A) → Sound N (jobs u) → Dues unit u
+  dues : (u : A) → Sound N (jobs u) → Dues unit u
   dues u s t h e =
       let i = if_held (InTurn L 0 (length (jobs u)) t) (held_from L 0 (jobs u) t) h (in_turn L 0 (jobs u) t) e in
       (omega (arith, i.later), omega (arith, i.soon, s.few))
 
-  pub tags : (u : A) → Tags unit u
+  tags : (u : A) → Tags unit u
   tags u t h e =
       (if_held (InTurn L 0 (length (jobs u)) t) (held_from L 0 (jobs u) t) h (in_turn L 0 (jobs u) t) e).tagged
 
-  pub offers : (u : A) → Offers unit u
+  offers : (u : A) → Offers unit u
   offers u o e = offer-held L (jobs u) o e
 
-  pub rooms : (u : A) → Rooms unit u
+  rooms : (u : A) → Rooms unit u
   rooms u c e = (and_parts (serves c) (nat_lt (length (jobs u)) N) e).0
 
-  pub empty-rooms : 0 < N → (u : A) → EmptyRooms unit u
+  empty-rooms : 0 < N → (u : A) → EmptyRooms unit u
   empty-rooms some u none c e =
       let l = empty-length L (jobs u) none in
       and_from (serves c) (nat_lt (length (jobs u)) N) e (lt-ltb (length (jobs u)) N (omega arith))
+
+  pub keeps : 0 < N → Keeps unit (λ v. Sound N (jobs v))
+  keeps some = record {
+    stays = λ u. omega (arith, some);
+    dues = dues;
+    tags = λ u s. tags u;
+    offers = λ u s. offers u;
+    rooms = rooms;
+    empty_rooms = λ u s. empty-rooms some u;
+  }
 
   pub same : (u u' : A) → Same unit u u'
   same u u' = record { serves = λ c. refl; stay = refl }

@@ -4,10 +4,9 @@ ghost use Rattle.pipelines.specs.Queues.{jobs_of, stepped};
 ghost use Rattle.pipelines.specs.Pipelines.{taken, Sound};
 ghost use Rattle.pipelines.specs.Supplied.{plain, serves_plain};
 ghost use Rattle.units.specs.Meaning.{room_for, take_answer};
-ghost use Rattle.pipelines.specs.Laws;
+ghost use Rattle.pipelines.specs.Laws.{keeps};
 ghost use Rattle.pipelines.specs.PlainUnitLemmas.{jobs};
-ghost use Rattle.std.proofs.Common.{arith, rules};
-ghost use Rattle.pipelines.specs.Laws.{empty-rooms};
+ghost use Rattle.std.proofs.Common.{arith};
 
 use crate::queue::Queue;
 use isa::operation::Class;
@@ -39,17 +38,7 @@ impl Unit for Plain {
 
     ghost sound = { λ u. Sound 2 (jobs_of u.queue) };
 
-    ghost stays = { Prim.search rules };
-
-    ghost dues = { Laws.dues 0 2 serves_plain jobs };
-
-    ghost tags = { λ u s. Laws.tags 0 2 serves_plain jobs u };
-
-    ghost offers = { λ u s. Laws.offers 0 2 serves_plain jobs u };
-
-    ghost rooms = { Laws.rooms 0 2 serves_plain jobs };
-
-    ghost empty_rooms = { λ u s. empty-rooms 0 2 serves_plain jobs (omega arith) u };
+    ghost laws = { keeps 0 2 serves_plain jobs (omega arith) };
 
     fn room(&self, class: Class) -> bool {
         match class {

@@ -1,7 +1,7 @@
 -- The single-job unit keeps the meaning of a unit.
 -- Assumes nothing.
 use Rattle.std.specs.Prelude.{◌≡◌, ℕ, Bool, true, cond, ◌&&◌, Some, None, Option, refl}
-use Rattle.std.proofs.Common.{sym, ap, subst, ◌∙◌, arith}
+use Rattle.std.proofs.Common.{sym, ap, subst, ◌∙◌, arith, rules}
 use Rattle.std.proofs.lemmas.Bool.{eq-eqb, ne_eqb}
 use Rattle.isa.specs.declared.operation.Class.{Class}
 use Rattle.isa.specs.declared.operation.Class.TheVariants.{Plain, Multiply, Divide, Transfer}
@@ -9,6 +9,7 @@ use Rattle.units.specs.declared.job.Job.{Job}
 use Rattle.units.specs.declared.job.Offer.{Offer}
 use Rattle.units.specs.Jobs.{word_class, job_outcome}
 use Rattle.units.specs.Meaning.{Held, Fell, Holds, Joined, Taken, room_in}
+use Rattle.units.specs.Calls.{Keeps}
 use Rattle.units.proofs.Classed.{classed_outcome}
 use Rattle.single.specs.declared.Single.{Single}
 use Rattle.single.specs.Single.{serves_plain, held_in, with_outcome, offer_in, room_beside, single, Sound}
@@ -20,7 +21,7 @@ held_here : (j : Job) → held_in (Some j) j.tag ≡ Some (record { job = j; due
 held_here j = ap (λ b. cond b (Some (record { job = j; due = 1 })) None) (eq-eqb j.tag j.tag refl)
 
 -- what is offered is its job's outcome
-pub offers : (o : Option Job) → Sound o → (x : Offer) → offer_in o ≡ Some x
+offers : (o : Option Job) → Sound o → (x : Offer) → offer_in o ≡ Some x
     → (h : Held) × (held_in o x.tag ≡ Some h) × (job_outcome h.job ≡ Some x.outcome)
 offers None s x e = let z : ◌≡◌ {A = ℕ} 0 1 = cc in absurd (omega arith)
 offers (Some j) s x e =
@@ -31,12 +32,22 @@ offers (Some j) s x e =
     (record { job = j; due = 1 }, ap (held_in (Some j)) (sym tag) ∙ held_here j, s.1 ∙ ap Some out)
 
 -- without a job there is room for what is served
-pub empty-rooms : (o : Option Job) → ((t : ℕ) → held_in o t ≡ None) → (c : Class) → serves_plain c ≡ true → room_beside o c ≡ true
+empty-rooms : (o : Option Job) → ((t : ℕ) → held_in o t ≡ None) → (c : Class) → serves_plain c ≡ true → room_beside o c ≡ true
 empty-rooms None h c e = ap (λ b. b && true) e
 empty-rooms (Some j) h c e =
     let gone = sym (held_here j) ∙ h j.tag in
     let z : ◌≡◌ {A = ℕ} 0 1 = cc in
     absurd (omega arith)
+
+pub keeps : Keeps single (λ u. Sound u.job)
+keeps = record {
+  stays = Prim.search rules;
+  dues = Prim.search rules;
+  tags = Prim.search rules;
+  offers = λ u. offers u.job;
+  rooms = Prim.search rules;
+  empty_rooms = λ u s. empty-rooms u.job;
+}
 
 -- room means that there was no job, and that the word's class is served
 abbrev Takes : Option Job → Option Job → Job → Option Class → Type 0

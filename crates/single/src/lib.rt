@@ -4,9 +4,7 @@
 ghost use Rattle.std.specs.Prelude.{◌≡◌, None};
 ghost use Rattle.single.specs.Single.{single, Sound, taken_in};
 ghost use Rattle.units.specs.Meaning.{room_for, take_answer};
-ghost use Rattle.single.specs.Laws;
-ghost use Rattle.single.specs.Laws.{empty-rooms};
-ghost use Rattle.std.proofs.Common.{rules};
+ghost use Rattle.single.specs.Laws.{keeps};
 
 use isa::operation::Class;
 use refusal::NoRoom;
@@ -31,17 +29,7 @@ impl Unit for Single {
 
     ghost sound = { λ u. Sound u.job };
 
-    ghost stays = { Prim.search rules };
-
-    ghost dues = { Prim.search rules };
-
-    ghost tags = { Prim.search rules };
-
-    ghost offers = { λ u s. Laws.offers u.job s };
-
-    ghost rooms = { Prim.search rules };
-
-    ghost empty_rooms = { λ u s. empty-rooms u.job };
+    ghost laws = { keeps };
 
     fn room(&self, class: Class) -> bool {
         matches!(class, Class::Plain) && self.job.is_none()

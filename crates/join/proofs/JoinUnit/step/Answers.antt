@@ -4,11 +4,7 @@ use Rattle.join.proofs.JoinUnit.step.Goals as goal
 
 pub returns : goal.returns
 returns g c =
-    let a = g.met.A.Unit in
-    let b = g.met.B.Unit in
     let call =
-    step_joined g.A.Unit.means g.B.Unit.means g.A.Unit.sound g.B.Unit.sound
-    (record { stays = a.stays; dues = a.dues; tags = a.tags; offers = a.offers; rooms = a.rooms; empty_rooms = a.empty_rooms })
-    (record { stays = b.stays; dues = b.dues; tags = b.tags; offers = b.offers; rooms = b.rooms; empty_rooms = b.empty_rooms })
+    step_joined g.A.Unit.means g.B.Unit.means g.A.Unit.sound g.B.Unit.sound g.met.A.Unit.laws g.met.B.Unit.laws
     c.args.self.now c.args.accepted c.step_in_turn.new.self c.step_in_turn.ensures in
     record { same = call.same; stepped = call.stepped; sides = c.step_in_turn.ensures }
