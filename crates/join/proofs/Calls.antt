@@ -59,11 +59,11 @@ offers-held m u t (Some o) e offers f =
 abbrev SideMoved : Bool → Option Offer → ℕ → Bool → Option Held → Bool → Option Held → Type 0
 SideMoved accepted o t turn x turn' x' = Moved accepted (offers_tag o t) (side_held turn x) (side_held turn' x')
 
-unit-moves : {A : Type 0} (m : UnitModel A) (sound : A → Type 0) (accepted turn : Bool) (u u' : A) (theirs : Option Offer) (t : ℕ)
-    → Keeps m sound → sound u → (offers_tag theirs t ≡ true → m.held u t ≡ None)
-    → StepCall m sound u (granted accepted (contested (m.offer u) theirs) turn) u'
+unit-moves : {A : Type 0} (m : UnitModel A) (accepted turn : Bool) (u u' : A) (theirs : Option Offer) (t : ℕ)
+    → Keeps m → m.sound u → (offers_tag theirs t ≡ true → m.held u t ≡ None)
+    → StepCall m u (granted accepted (contested (m.offer u) theirs) turn) u'
     → SideMoved accepted (offered (not turn) (m.offer u) theirs) t turn (m.held u t) (turned accepted (contested (m.offer u) theirs) turn) (m.held u' t)
-unit-moves m sound accepted turn u u' theirs t keeps s other call =
+unit-moves m accepted turn u u' theirs t keeps s other call =
     side_moves accepted turn (m.offer u) theirs t (m.held u t) (m.held u' t) (λ h e. (keeps.dues u s t h e).0) other ((call.stepped s).0 t)
 
 recast : (accepted : Bool) (o o' : Option Offer) (t : ℕ) (turn : Bool) (x : Option Held) (a a' : Bool) (x' : Option Held)
@@ -71,11 +71,11 @@ recast : (accepted : Bool) (o o' : Option Offer) (t : ℕ) (turn : Bool) (x : Op
 recast accepted o o' t turn x a a' x' e f m =
     subst (λ (p : Option Offer). SideMoved accepted p t turn x a' x') e (subst (λ (b : Bool). SideMoved accepted o t turn x b x') f m)
 
-module _ {A B : Type 0} (l : UnitModel A) (r : UnitModel B) (sl : A → Type 0) (sr : B → Type 0) (kl : Keeps l sl) (kr : Keeps r sr) where
+module _ {A B : Type 0} (l : UnitModel A) (r : UnitModel B) (kl : Keeps l) (kr : Keeps r) where
   abbrev Sounds : Join A B → Type 0
-  Sounds = Sound l r sl sr
+  Sounds = Sound l r
 
-  left_moves : (u : Join A B) (accepted : Bool) (u' : Join A B) → Sounds u → SidesStep l r sl sr u accepted u' → (t : ℕ)
+  left_moves : (u : Join A B) (accepted : Bool) (u' : Join A B) → Sounds u → SidesStep l r u accepted u' → (t : ℕ)
       → SideMoved accepted ((join_means l r).offer u) t (not u.right_turn) (l.held u.left t) (not u'.right_turn) (l.held u'.left t)
   left_moves u accepted u' s sides t =
       let turn = u.right_turn in
@@ -86,9 +86,9 @@ module _ {A B : Type 0} (l : UnitModel A) (r : UnitModel B) (sl : A → Type 0) 
       recast accepted (offered (not (not turn)) lo ro) (offered turn lo ro) t (not turn) (l.held u.left t) (turned accepted (contested lo ro) (not turn)) (not u'.right_turn) (l.held u'.left t)
       (ap (λ (b : Bool). offered b lo ro) (not_not turn))
       (not_turned accepted (contested lo ro) turn ∙ ap not (sym sides.turn))
-      (unit-moves l sl accepted (not turn) u.left u'.left ro t kl s.left gone sides.left)
+      (unit-moves l accepted (not turn) u.left u'.left ro t kl s.left gone sides.left)
 
-  right_moves : (u : Join A B) (accepted : Bool) (u' : Join A B) → Sounds u → SidesStep l r sl sr u accepted u' → (t : ℕ)
+  right_moves : (u : Join A B) (accepted : Bool) (u' : Join A B) → Sounds u → SidesStep l r u accepted u' → (t : ℕ)
       → SideMoved accepted ((join_means l r).offer u) t u.right_turn (r.held u.right t) u'.right_turn (r.held u'.right t)
   right_moves u accepted u' s sides t =
       let turn = u.right_turn in
@@ -100,13 +100,13 @@ module _ {A B : Type 0} (l : UnitModel A) (r : UnitModel B) (sl : A → Type 0) 
       recast accepted (offered (not turn) ro lo) (offered turn lo ro) t turn (r.held u.right t) (turned accepted (contested ro lo) turn) u'.right_turn (r.held u'.right t)
       (offered_swaps turn lo ro)
       (ap (λ (b : Bool). turned accepted b turn) swapped ∙ sym sides.turn)
-      (unit-moves r sr accepted turn u.right u'.right lo t kr s.right gone
-      (subst (λ (b : Bool). StepCall r sr u.right (granted accepted b turn) u'.right) (sym swapped) sides.right))
+      (unit-moves r accepted turn u.right u'.right lo t kr s.right gone
+      (subst (λ (b : Bool). StepCall r u.right (granted accepted b turn) u'.right) (sym swapped) sides.right))
 
-  pub step_joined : (u : Join A B) (accepted : Bool) (u' : Join A B) → SidesStep l r sl sr u accepted u' → StepCall (join_means l r) Sounds u accepted u'
+  pub step_joined : (u : Join A B) (accepted : Bool) (u' : Join A B) → SidesStep l r u accepted u' → StepCall (join_means l r) u accepted u'
   step_joined u accepted u' sides =
       let turn = u.right_turn in
-      let both = both_offer l r sl sr u in
+      let both = both_offer l r u in
       record {
         same = same_joined l r u u' sides.left.same sides.right.same;
         stepped = λ s.
@@ -135,17 +135,17 @@ same_join x x' y y' b b' e f g = rw (e, f, g)
 unit-stays : {A : Type 0} (m : UnitModel A) (u u' : A) → u' ≡ u → (t : ℕ) → Fell 0 (m.held u t) (m.held u' t)
 unit-stays m u u' e t = subst (λ v. Fell 0 (m.held u t) (m.held v t)) (sym e) (fell_same (m.held u t))
 
-module _ {A B : Type 0} (l : UnitModel A) (r : UnitModel B) (sl : A → Type 0) (sr : B → Type 0) where
+module _ {A B : Type 0} (l : UnitModel A) (r : UnitModel B) where
   -- a side's other jobs, as they were or sooner due
   abbrev OthersStay : {U : Type 0} → UnitModel U → Job → U → U → Type 0
   OthersStay m j u u' = (t : ℕ) → (t ≡ j.tag → ⊥) → Fell 0 (m.held u t) (m.held u' t)
 
   -- a job that is held on one side after, and was on neither before
-  job-joins : (u : Join A B) (j : Job) (u' : Join A B) → u'.right_turn ≡ u.right_turn → Sound l r sl sr u
+  job-joins : (u : Join A B) (j : Job) (u' : Join A B) → u'.right_turn ≡ u.right_turn → Sound l r u
       → Holds j (first_of (l.held u'.left j.tag) (r.held u'.right j.tag))
       → Apart (l.held u'.left j.tag) (r.held u'.right j.tag)
-      → OthersStay l j u.left u'.left → OthersStay r j u.right u'.right → sl u'.left → sr u'.right
-      → Joined (join_means l r) u j u' × Sound l r sl sr u'
+      → OthersStay l j u.left u'.left → OthersStay r j u.right u'.right → l.sound u'.left → r.sound u'.right
+      → Joined (join_means l r) u j u' × Sound l r u'
   job-joins u j u' stays s holds apart left right sl' sr' =
       let turn = u.right_turn in
       let x = l.held u.left in
@@ -171,12 +171,12 @@ module _ {A B : Type 0} (l : UnitModel A) (r : UnitModel B) (sl : A → Type 0) 
 
   abbrev RightTaken : Bool → Bool → B → Job → B → Type 0
   RightTaken true b u j u' = u' ≡ u
-  RightTaken false b u j u' = Taken r sr b u j u'
+  RightTaken false b u j u' = Taken r b u j u'
 
   -- first whether the left side has room, then whether the right side has
   taken-joined : (a b : Bool) (u : Join A B) (j : Job) (u' : Join A B) → u'.right_turn ≡ u.right_turn
-      → Taken l sl a u.left j u'.left → RightTaken a b u.right j u'.right
-      → Taken (join_means l r) (Sound l r sl sr) (a || b) u j u'
+      → Taken l a u.left j u'.left → RightTaken a b u.right j u'.right
+      → Taken (join_means l r) (a || b) u j u'
   taken-joined true b u j u' stays left right = λ s free.
       let none = first_empty (not u.right_turn) u.right_turn (l.held u.left j.tag) (r.held u.right j.tag) free in
       let joined = left s.left none.0 in
@@ -184,7 +184,7 @@ module _ {A B : Type 0} (l : UnitModel A) (r : UnitModel B) (sl : A → Type 0) 
       job-joins u j u' stays s
       (holds_left j _ (r.held u'.right j.tag) joined.0.joins)
       (none_apart (l.held u'.left j.tag) _ gone)
-      joined.0.others (λ t ne. unit-stays r u.right u'.right right t) joined.1 (subst sr (sym right) s.right)
+      joined.0.others (λ t ne. unit-stays r u.right u'.right right t) joined.1 (subst r.sound (sym right) s.right)
   taken-joined false true u j u' stays left right = λ s free.
       let none = first_empty (not u.right_turn) u.right_turn (l.held u.left j.tag) (r.held u.right j.tag) free in
       let joined = right s.right none.1 in
@@ -192,25 +192,25 @@ module _ {A B : Type 0} (l : UnitModel A) (r : UnitModel B) (sl : A → Type 0) 
       job-joins u j u' stays s
       (holds_right j _ _ gone joined.0.joins)
       (apart_none _ (r.held u'.right j.tag) gone)
-      (λ t ne. unit-stays l u.left u'.left left t) joined.0.others (subst sl (sym left) s.left) joined.1
+      (λ t ne. unit-stays l u.left u'.left left t) joined.0.others (subst l.sound (sym left) s.left) joined.1
   taken-joined false false u j u' stays left right =
       same_join u.left u'.left u.right u'.right u.right_turn u'.right_turn left right stays
 
-  right_same : (a : Bool) (u : B) (j : Job) (u' : B) → RightTakes l r sl sr a u j u' → Same r u u'
+  right_same : (a : Bool) (u : B) (j : Job) (u' : B) → RightTakes l r a u j u' → Same r u u'
   right_same true u j u' e = subst (λ (v : B). Same r u v) (sym e) (record { serves = λ c. refl; stay = refl })
   right_same false u j u' call = call.same
 
-  right_taken : (a : Bool) (u : B) (j : Job) (u' : B) → RightTakes l r sl sr a u j u' → RightTaken a (room_for r u j.word) u j u'
+  right_taken : (a : Bool) (u : B) (j : Job) (u' : B) → RightTakes l r a u j u' → RightTaken a (room_for r u j.word) u j u'
   right_taken true u j u' e = e
   right_taken false u j u' call = call.taken
 
-  pub take-joined : (u : Join A B) (j : Job) (u' : Join A B) → SidesTake l r sl sr u j u' → TakeCall (join_means l r) (Sound l r sl sr) u j u'
+  pub take-joined : (u : Join A B) (j : Job) (u' : Join A B) → SidesTake l r u j u' → TakeCall (join_means l r) u j u'
   take-joined u j u' sides =
       let a = room_for l u.left j.word in
       record {
         same = same_joined l r u u' sides.left.same (right_same a u.right j u'.right sides.right);
         taken =
-            subst (λ (b : Bool). Taken (join_means l r) (Sound l r sl sr) b u j u') (room_joined (l.room u.left) (r.room u.right) (word_class j.word))
+            subst (λ (b : Bool). Taken (join_means l r) b u j u') (room_joined (l.room u.left) (r.room u.right) (word_class j.word))
             (taken-joined a (room_for r u.right j.word) u j u' sides.turn sides.left.taken (right_taken a u.right j u'.right sides.right));
       }
 

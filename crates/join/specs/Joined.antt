@@ -48,16 +48,7 @@ abbrev pub first_of : Option Held → Option Held → Option Held
 first_of (Some h) k = Some h
 first_of None k = k
 
--- the model ----------------------------------------------------------------------
-
-abbrev pub join_means : {A B : Type 0} → UnitModel A → UnitModel B → UnitModel (Join A B)
-join_means l r = record {
-  serves = λ j c. l.serves j.left c || r.serves j.right c;
-  stay = λ j. 2 * max (l.stay j.left) (r.stay j.right);
-  held = λ j t. first_of (side_held (not j.right_turn) (l.held j.left t)) (side_held j.right_turn (r.held j.right t));
-  room = λ j c. l.room j.left c || r.room j.right c;
-  offer = λ j. offered j.right_turn (l.offer j.left) (r.offer j.right);
-}
+-- what is sound ---------------------------------------------------------------
 
 abbrev pub Apart : Option Held → Option Held → Type 0
 Apart (Some h) (Some k) = ⊥
@@ -65,7 +56,19 @@ Apart (Some h) None = Unit {0}
 Apart None k = Unit {0}
 
 -- both sides are sound, and no tag is held on both
-pub record Sound {A B : Type 0} (l : UnitModel A) (r : UnitModel B) (sl : A → Type 0) (sr : B → Type 0) (j : Join A B) : Type 0 where
-  pub left : sl j.left
-  pub right : sr j.right
+pub record Sound {A B : Type 0} (l : UnitModel A) (r : UnitModel B) (j : Join A B) : Type 0 where
+  pub left : l.sound j.left
+  pub right : r.sound j.right
   pub apart : (t : ℕ) → Apart (l.held j.left t) (r.held j.right t)
+
+-- the model ----------------------------------------------------------------------
+
+abbrev pub join_means : {A B : Type 0} → UnitModel A → UnitModel B → UnitModel (Join A B)
+join_means l r = record {
+  sound = Sound l r;
+  serves = λ j c. l.serves j.left c || r.serves j.right c;
+  stay = λ j. 2 * max (l.stay j.left) (r.stay j.right);
+  held = λ j t. first_of (side_held (not j.right_turn) (l.held j.left t)) (side_held j.right_turn (r.held j.right t));
+  room = λ j c. l.room j.left c || r.room j.right c;
+  offer = λ j. offered j.right_turn (l.offer j.left) (r.offer j.right);
+}

@@ -21,20 +21,20 @@ offered_by false (Some l) (Some r) o e = inl e
 offered_by right (Some l) None o e = inl e
 offered_by right None r o e = inr e
 
-module _ {A B : Type 0} (l : UnitModel A) (r : UnitModel B) (sl : A → Type 0) (sr : B → Type 0) (kl : Keeps l sl) (kr : Keeps r sr) where
-  dues : (u : Join A B) → Sound l r sl sr u → Dues (join_means l r) u
+module _ {A B : Type 0} (l : UnitModel A) (r : UnitModel B) (kl : Keeps l) (kr : Keeps r) where
+  dues : (u : Join A B) → Sound l r u → Dues (join_means l r) u
   dues u s t =
       let most = max (l.stay u.left) (r.stay u.right) in
       by_side (λ (h : Held). (1 ≤ h.due) × (h.due ≤ 2 * most)) (not u.right_turn) u.right_turn (l.held u.left t) (r.held u.right t)
       (λ h e. due-within (not u.right_turn) h.due (l.stay u.left) most (kl.dues u.left s.left t h e) (omega arith))
       (λ h e. due-within u.right_turn h.due (r.stay u.right) most (kr.dues u.right s.right t h e) (omega arith))
 
-  tags : (u : Join A B) → Sound l r sl sr u → Tags (join_means l r) u
+  tags : (u : Join A B) → Sound l r u → Tags (join_means l r) u
   tags u s t =
       by_side (λ (h : Held). h.job.tag ≡ t) (not u.right_turn) u.right_turn (l.held u.left t) (r.held u.right t)
       (kl.tags u.left s.left t) (kr.tags u.right s.right t)
 
-  offers : (u : Join A B) → Sound l r sl sr u → Offers (join_means l r) u
+  offers : (u : Join A B) → Sound l r u → Offers (join_means l r) u
   offers u s o e =
       let turn = u.right_turn in
       let x = l.held u.left o.tag in
@@ -56,7 +56,7 @@ module _ {A B : Type 0} (l : UnitModel A) (r : UnitModel B) (sl : A → Type 0) 
         | inr f ↦ or_right (l.serves u.left c) (r.serves u.right c) (kr.rooms u.right c f)
       ]
 
-  empty-rooms : (u : Join A B) → Sound l r sl sr u → EmptyRooms (join_means l r) u
+  empty-rooms : (u : Join A B) → Sound l r u → EmptyRooms (join_means l r) u
   empty-rooms u s empty c e =
       let sides = λ (t : ℕ). first_empty (not u.right_turn) u.right_turn (l.held u.left t) (r.held u.right t) (empty t) in
       elim (or_cases (l.serves u.left c) (r.serves u.right c) e) [
@@ -64,7 +64,7 @@ module _ {A B : Type 0} (l : UnitModel A) (r : UnitModel B) (sl : A → Type 0) 
         | inr f ↦ or_right (l.room u.left c) (r.room u.right c) (kr.empty_rooms u.right s.right (λ t. (sides t).1) c f)
       ]
 
-  pub join_keeps : Keeps (join_means l r) (Sound l r sl sr)
+  pub join_keeps : Keeps (join_means l r)
   join_keeps = record {
     stays = λ u. omega (arith, kl.stays u.left);
     dues = dues;

@@ -7,22 +7,22 @@ use Rattle.units.specs.Calls.{TakeCall, StepCall, ClearCall}
 use Rattle.join.specs.declared.Join.{Join}
 use Rattle.join.specs.Joined.{contested, turned, granted, join_means, Sound}
 
-module _ {A B : Type 0} (l : UnitModel A) (r : UnitModel B) (sl : A → Type 0) (sr : B → Type 0) where
+module _ {A B : Type 0} (l : UnitModel A) (r : UnitModel B) where
   -- what take and step promise of a join as a unit
   abbrev pub JoinTaken : Join A B → Job → Join A B → Type 0
-  JoinTaken u j u' = Taken (join_means l r) (Sound l r sl sr) (room_for (join_means l r) u j.word) u j u'
+  JoinTaken u j u' = Taken (join_means l r) (room_for (join_means l r) u j.word) u j u'
 
   abbrev pub JoinStepped : Join A B → Bool → Join A B → Type 0
-  JoinStepped u accepted u' = Sound l r sl sr u → Stepped (join_means l r) u accepted u' × Sound l r sl sr u'
+  JoinStepped u accepted u' = Sound l r u → Stepped (join_means l r) u accepted u' × Sound l r u'
 
   -- the right side is asked only where the left has no room
   abbrev pub RightTakes : Bool → B → Job → B → Type 0
   RightTakes true u j u' = u' ≡ u
-  RightTakes false u j u' = TakeCall r sr u j u'
+  RightTakes false u j u' = TakeCall r u j u'
 
   pub record SidesTake (u : Join A B) (j : Job) (u' : Join A B) : Type 0 where
     pub turn : u'.right_turn ≡ u.right_turn
-    pub left : TakeCall l sl u.left j u'.left
+    pub left : TakeCall l u.left j u'.left
     pub right : RightTakes (room_for l u.left j.word) u.right j u'.right
 
   abbrev pub both_offer : Join A B → Bool
@@ -30,10 +30,10 @@ module _ {A B : Type 0} (l : UnitModel A) (r : UnitModel B) (sl : A → Type 0) 
 
   pub record SidesStep (u : Join A B) (accepted : Bool) (u' : Join A B) : Type 0 where
     pub turn : u'.right_turn ≡ turned accepted (both_offer u) u.right_turn
-    pub left : StepCall l sl u.left (granted accepted (both_offer u) (not u.right_turn)) u'.left
-    pub right : StepCall r sr u.right (granted accepted (both_offer u) u.right_turn) u'.right
+    pub left : StepCall l u.left (granted accepted (both_offer u) (not u.right_turn)) u'.left
+    pub right : StepCall r u.right (granted accepted (both_offer u) u.right_turn) u'.right
 
   pub record SidesClear (u u' : Join A B) : Type 0 where
     pub turn : u'.right_turn ≡ false
-    pub left : ClearCall l sl u.left u'.left
-    pub right : ClearCall r sr u.right u'.right
+    pub left : ClearCall l u.left u'.left
+    pub right : ClearCall r u.right u'.right

@@ -35,7 +35,7 @@ impl<A: Unit, B: Unit> Join<A, B> {
 
     fn take_left_first(&mut self, job: Job) -> Result<(), NoRoom>
         ensures answer { result ≡ take_answer (room_for A.Unit.means self.old.left job.word || room_for B.Unit.means self.old.right job.word) }
-        ensures sides { SidesTake A.Unit.means B.Unit.means A.Unit.sound B.Unit.sound self.old job self.new }
+        ensures sides { SidesTake A.Unit.means B.Unit.means self.old job self.new }
     {
         match self.left.take(job) {
             Ok(()) => Ok(()),
@@ -44,7 +44,7 @@ impl<A: Unit, B: Unit> Join<A, B> {
     }
 
     fn step_in_turn(&mut self, accepted: bool)
-        ensures { SidesStep A.Unit.means B.Unit.means A.Unit.sound B.Unit.sound self.old accepted self.new }
+        ensures { SidesStep A.Unit.means B.Unit.means self.old accepted self.new }
     {
         if accepted && self.contested() {
             // the refused side keeps its offer, and is next
@@ -68,9 +68,7 @@ impl<A: Unit, B: Unit> Join<A, B> {
 impl<A: Unit, B: Unit> Unit for Join<A, B> {
     ghost means = { join_means A.Unit.means B.Unit.means };
 
-    ghost sound = { Sound A.Unit.means B.Unit.means A.Unit.sound B.Unit.sound };
-
-    ghost laws = { join_keeps A.Unit.means B.Unit.means A.Unit.sound B.Unit.sound A.Unit.laws B.Unit.laws };
+    ghost laws = { join_keeps A.Unit.means B.Unit.means A.Unit.laws B.Unit.laws };
 
     fn room(&self, class: Class) -> bool {
         self.left.room(class) || self.right.room(class)
@@ -79,8 +77,8 @@ impl<A: Unit, B: Unit> Unit for Join<A, B> {
     fn take(&mut self, job: Job) -> Result<(), NoRoom>
         ensures answer { result ≡ take_answer (room_for (join_means A.Unit.means B.Unit.means) self.old job.word) }
         ensures same { Same (join_means A.Unit.means B.Unit.means) self.old self.new }
-        ensures taken { JoinTaken A.Unit.means B.Unit.means A.Unit.sound B.Unit.sound self.old job self.new }
-        ensures sides { SidesTake A.Unit.means B.Unit.means A.Unit.sound B.Unit.sound self.old job self.new }
+        ensures taken { JoinTaken A.Unit.means B.Unit.means self.old job self.new }
+        ensures sides { SidesTake A.Unit.means B.Unit.means self.old job self.new }
     {
         self.take_left_first(job)
     }
@@ -95,8 +93,8 @@ impl<A: Unit, B: Unit> Unit for Join<A, B> {
 
     fn step(&mut self, accepted: bool)
         ensures same { Same (join_means A.Unit.means B.Unit.means) self.old self.new }
-        ensures stepped { JoinStepped A.Unit.means B.Unit.means A.Unit.sound B.Unit.sound self.old accepted self.new }
-        ensures sides { SidesStep A.Unit.means B.Unit.means A.Unit.sound B.Unit.sound self.old accepted self.new }
+        ensures stepped { JoinStepped A.Unit.means B.Unit.means self.old accepted self.new }
+        ensures sides { SidesStep A.Unit.means B.Unit.means self.old accepted self.new }
     {
         self.step_in_turn(accepted)
     }
@@ -104,8 +102,8 @@ impl<A: Unit, B: Unit> Unit for Join<A, B> {
     fn clear(&mut self)
         ensures same { Same (join_means A.Unit.means B.Unit.means) self.old self.new }
         ensures empty { Empty (join_means A.Unit.means B.Unit.means) self.new }
-        ensures sound { Sound A.Unit.means B.Unit.means A.Unit.sound B.Unit.sound self.new }
-        ensures sides { SidesClear A.Unit.means B.Unit.means A.Unit.sound B.Unit.sound self.old self.new }
+        ensures sound { Sound A.Unit.means B.Unit.means self.new }
+        ensures sides { SidesClear A.Unit.means B.Unit.means self.old self.new }
     {
         self.left.clear();
         self.right.clear();
@@ -135,7 +133,7 @@ pub fn tall_pile<A: Unit, B: Unit, C: Unit, D: Unit, E: Unit>(
 
 // Whatever its sides are, a job that a join takes is offered within twice the larger of their longest stays.
 pub fn offered_within_twice<A: Unit, B: Unit>(join: &Join<A, B>)
-    ensures { OfferedWithinStay (join_means A.Unit.means B.Unit.means) (Sound A.Unit.means B.Unit.means A.Unit.sound B.Unit.sound) }
+    ensures { OfferedWithinStay (join_means A.Unit.means B.Unit.means) }
 {
     offered_within_stay(join)
 }

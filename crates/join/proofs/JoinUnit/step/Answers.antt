@@ -5,6 +5,6 @@ use Rattle.join.proofs.JoinUnit.step.Goals as goal
 pub returns : goal.returns
 returns g c =
     let call =
-    step_joined g.A.Unit.means g.B.Unit.means g.A.Unit.sound g.B.Unit.sound g.met.A.Unit.laws g.met.B.Unit.laws
+    step_joined g.A.Unit.means g.B.Unit.means g.met.A.Unit.laws g.met.B.Unit.laws
     c.args.self.now c.args.accepted c.step_in_turn.new.self c.step_in_turn.ensures in
     record { same = call.same; stepped = call.stepped; sides = c.step_in_turn.ensures }

@@ -6,10 +6,8 @@ pub returns : goal.returns
 returns g c =
     let l = g.A.Unit.means in
     let r = g.B.Unit.means in
-    let sl = g.A.Unit.sound in
-    let sr = g.B.Unit.sound in
     let u = c.args.self.now in
     let j = c.args.job in
     let did = c.take_left_first.ensures in
-    let call = take-joined l r sl sr u j c.take_left_first.new.self did.sides in
-    record { answer = answer_joined l r sl sr u j.word c.take_left_first.result did.answer; same = call.same; taken = call.taken; sides = did.sides }
+    let call = take-joined l r u j c.take_left_first.new.self did.sides in
+    record { answer = answer_joined l r u j.word c.take_left_first.result did.answer; same = call.same; taken = call.taken; sides = did.sides }
