@@ -60,7 +60,7 @@ other_no_room (Working v) w e = no_room (word_class w)
 other_no_room (Finished f) w e = no_room (word_class w)
 
 starts : (s : State) (job : Job) (d : Division) → admitted s job.word ≡ Some d → job.a < 2 ^ 32 → job.b < 2 ^ 32
-    → Taken model Sound true (record { state = s }) job (record { state = Working (start_of d job) })
+    → Taken model true (record { state = s }) job (record { state = Working (start_of d job) })
 starts Idle job d e h l sound free = (
   record {
     joins = rw (own_tag job);
@@ -86,12 +86,12 @@ module _ (u : Divider) (job : Job) where
   take_answer_lem None e = ap take_answer (sym (other_no_room u.state job.word e))
 
   pub take_meets : (x : Option Division) → admitted u.state job.word ≡ x → job.a < 2 ^ 32 → job.b < 2 ^ 32
-      → Taken model Sound (room_for model u job.word) u job (record { state = taken u.state x job })
+      → Taken model (room_for model u job.word) u job (record { state = taken u.state x job })
   take_meets (Some d) e h l =
-      subst (λ (r : Bool). Taken model Sound r u job (record { state = Working (start_of d job) }))
+      subst (λ (r : Bool). Taken model r u job (record { state = Working (start_of d job) }))
       (sym (admitted-room u.state job.word d e)) (starts u.state job d e h l)
   take_meets None e h l =
-      subst (λ (r : Bool). Taken model Sound r u job u) (sym (other_no_room u.state job.word e)) refl
+      subst (λ (r : Bool). Taken model r u job u) (sym (other_no_room u.state job.word e)) refl
 
 -- step -------------------------------------------------------------------------
 
@@ -185,7 +185,7 @@ empty-roomy Idle none c e = e
 empty-roomy (Working w) none c e = found w.job (33 - w.steps) (none w.job.tag)
 empty-roomy (Finished f) none c e = found f.job 1 (none f.job.tag)
 
-pub keeps : Keeps model Sound
+pub keeps : Keeps model
 keeps = record {
   stays = λ u. omega arith;
   dues = λ u sound. within u.state;

@@ -37,16 +37,6 @@ offer_of Idle = None
 offer_of (Working w) = None
 offer_of (Finished f) = Some (record { tag = f.job.tag; outcome = outcome_in f })
 
-abbrev pub model : UnitModel Divider
-model =
-    record {
-      serves = λ u c. is_divide c;
-      stay = λ u. 33;
-      held = λ u t. held_in u.state t;
-      room = λ u c. room_of u.state c;
-      offer = λ u. offer_of u.state;
-    }
-
 -- the job on its way asks for the division that is made, of numbers of 32 bits; the result is its job's
 abbrev pub SoundState : State → Type 0
 SoundState Idle = Unit {0}
@@ -55,3 +45,14 @@ SoundState (Finished f) = job_outcome f.job ≡ Some (outcome_in f)
 
 abbrev pub Sound : Divider → Type 0
 Sound u = SoundState u.state
+
+abbrev pub model : UnitModel Divider
+model =
+    record {
+      sound = Sound;
+      serves = λ u c. is_divide c;
+      stay = λ u. 33;
+      held = λ u t. held_in u.state t;
+      room = λ u c. room_of u.state c;
+      offer = λ u. offer_of u.state;
+    }

@@ -41,8 +41,6 @@ impl Divider {
 impl Unit for Divider {
     ghost means = { model };
 
-    ghost sound = { Sound };
-
     ghost laws = { keeps };
 
     fn room(&self, class: Class) -> bool {
@@ -55,7 +53,7 @@ impl Unit for Divider {
     fn take(&mut self, job: Job) -> Result<(), NoRoom>
         ensures answer { result ≡ take_answer (room_for model self.old job.word) }
         ensures same { Same model self.old self.new }
-        ensures taken { Taken model Sound (room_for model self.old job.word) self.old job self.new }
+        ensures taken { Taken model (room_for model self.old job.word) self.old job self.new }
         ensures state { self.new ≡ took_in self.old job }
     {
         match self.state.admit(job.word) {

@@ -77,7 +77,7 @@ module _ {A : Type 0} (L N : ℕ) (serves : Class → Bool) (jobs : A → List T
       let l = empty-length L (jobs u) none in
       and_from (serves c) (nat_lt (length (jobs u)) N) e (lt-ltb (length (jobs u)) N (omega arith))
 
-  pub keeps : 0 < N → Keeps unit (λ v. Sound N (jobs v))
+  pub keeps : 0 < N → Keeps unit
   keeps some = record {
     stays = λ u. omega (arith, some);
     dues = dues;
@@ -107,7 +107,7 @@ module _ {A : Type 0} (L N : ℕ) (serves : Class → Bool) (jobs : A → List T
   takes_if : (u u' : A) (j : Job) (room : Bool)
       → (room ≡ true → (length (jobs u) < N) × ((o : Outcome) × (job_outcome j ≡ Some o)))
       → (jobs u' ≡ jobs u → u' ≡ u) → jobs u' ≡ cond room (pushed j (jobs u)) (jobs u)
-      → Taken unit (λ v. Sound N (jobs v)) room u j u'
+      → Taken unit room u j u'
   takes_if u u' j false fit one e = one e
   takes_if u u' j true fit one e = λ s none.
       let n = none_tagged L 0 (jobs u) j.tag none in
@@ -120,5 +120,5 @@ module _ {A : Type 0} (L N : ℕ) (serves : Class → Bool) (jobs : A → List T
       )
 
   pub takes : (u u' : A) (j : Job) → (jobs u' ≡ jobs u → u' ≡ u) → jobs u' ≡ taken N serves j (jobs u)
-      → Taken unit (λ v. Sound N (jobs v)) (room_in (room_left N serves (jobs u)) (word_class j.word)) u j u'
+      → Taken unit (room_in (room_left N serves (jobs u)) (word_class j.word)) u j u'
   takes u u' j = takes_if u u' j (room_in (room_left N serves (jobs u)) (word_class j.word)) (fits u j)

@@ -39,20 +39,6 @@ offered L (x ∷ xs) = outcome_offer L x
 abbrev pub room_left : ℕ → (Class → Bool) → List Timed → Class → Bool
 room_left N serves xs c = serves c && nat_lt (length xs) N
 
--- with the list of jobs that a unit's state holds; a job waits at most L steps, and then for those in front of it
-abbrev pub pipeline : {A : Type 0} → ℕ → ℕ → (Class → Bool) → (A → List Timed) → UnitModel A
-pipeline L N serves jobs = record {
-  serves = λ u. serves;
-  stay = λ u. L + N;
-  held = λ u. held_from L 0 (jobs u);
-  room = λ u. room_left N serves (jobs u);
-  offer = λ u. offered L (jobs u);
-}
-
--- a job joins where there is room for its word
-abbrev pub taken : ℕ → (Class → Bool) → Job → List Timed → List Timed
-taken N serves j xs = cond (room_in (room_left N serves xs) (word_class j.word)) (pushed j xs) xs
-
 -- no two jobs have one tag
 abbrev pub Apart : List Timed → Type 0
 Apart [] = Unit {0}
@@ -67,3 +53,18 @@ pub record Sound (N : ℕ) (xs : List Timed) : Type 0 where
   pub few : length xs ≤ N
   pub worked : AllByRecursion Worked xs
   pub apart : Apart xs
+
+-- with the list of jobs that a unit's state holds; a job waits at most L steps, and then for those in front of it
+abbrev pub pipeline : {A : Type 0} → ℕ → ℕ → (Class → Bool) → (A → List Timed) → UnitModel A
+pipeline L N serves jobs = record {
+  sound = λ u. Sound N (jobs u);
+  serves = λ u. serves;
+  stay = λ u. L + N;
+  held = λ u. held_from L 0 (jobs u);
+  room = λ u. room_left N serves (jobs u);
+  offer = λ u. offered L (jobs u);
+}
+
+-- a job joins where there is room for its word
+abbrev pub taken : ℕ → (Class → Bool) → Job → List Timed → List Timed
+taken N serves j xs = cond (room_in (room_left N serves xs) (word_class j.word)) (pushed j xs) xs

@@ -36,8 +36,6 @@ impl Multiplier {
 impl Unit for Multiplier {
     ghost means = { multiplier };
 
-    ghost sound = { λ u. Sound 4 (jobs_of u.queue) };
-
     ghost laws = { keeps 3 4 serves_multiply jobs (omega arith) };
 
     fn room(&self, class: Class) -> bool {

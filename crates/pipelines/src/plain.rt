@@ -36,8 +36,6 @@ impl Plain {
 impl Unit for Plain {
     ghost means = { plain };
 
-    ghost sound = { λ u. Sound 2 (jobs_of u.queue) };
-
     ghost laws = { keeps 0 2 serves_plain jobs (omega arith) };
 
     fn room(&self, class: Class) -> bool {

@@ -39,7 +39,7 @@ empty-rooms (Some j) h c e =
     let z : ◌≡◌ {A = ℕ} 0 1 = cc in
     absurd (omega arith)
 
-pub keeps : Keeps single (λ u. Sound u.job)
+pub keeps : Keeps single
 keeps = record {
   stays = Prim.search rules;
   dues = Prim.search rules;
@@ -53,7 +53,7 @@ keeps = record {
 abbrev Takes : Option Job → Option Job → Job → Option Class → Type 0
 Takes o o' j k =
     o' ≡ cond (room_in (room_beside o) k) (Some j) o → (word_class j.word ≡ k)
-    → Taken single (λ u. Sound u.job) (room_in (room_beside o) k) (with o) j (with o')
+    → Taken single (room_in (room_beside o) k) (with o) j (with o')
 
 refused : (o o' : Option Job) → o' ≡ o → with o' ≡ with o
 refused o o' e = ap with e

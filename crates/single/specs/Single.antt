@@ -36,19 +36,20 @@ offer_in None = None
 abbrev pub room_beside : Option Job → Class → Bool
 room_beside o c = serves_plain c && free o
 
+-- its job has an outcome
+abbrev pub Sound : Option Job → Type 0
+Sound (Some j) = (o : Outcome) × (job_outcome j ≡ Some o)
+Sound None = Unit {0}
+
 abbrev pub single : UnitModel Single
 single = record {
+  sound = λ u. Sound u.job;
   serves = λ u. serves_plain;
   stay = λ u. 1;
   held = λ u. held_in u.job;
   room = λ u. room_beside u.job;
   offer = λ u. offer_in u.job;
 }
-
--- its job has an outcome
-abbrev pub Sound : Option Job → Type 0
-Sound (Some j) = (o : Outcome) × (job_outcome j ≡ Some o)
-Sound None = Unit {0}
 
 -- a job joins where there is room for its word
 abbrev pub taken_in : Job → Option Job → Option Job

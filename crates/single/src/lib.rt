@@ -27,8 +27,6 @@ impl Single {
 impl Unit for Single {
     ghost means = { single };
 
-    ghost sound = { λ u. Sound u.job };
-
     ghost laws = { keeps };
 
     fn room(&self, class: Class) -> bool {

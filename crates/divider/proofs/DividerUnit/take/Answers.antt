@@ -21,7 +21,7 @@ returns-in-Some c =
       answer = take_answer_lem u job (Some d) admits;
       same = record { serves = λ c. refl; stay = refl };
       taken =
-          subst (λ (v : Divider). Taken model Sound (room_for model u job.word) u job v) (sym e)
+          subst (λ (v : Divider). Taken model (room_for model u job.word) u job v) (sym e)
           (take_meets u job (Some d) admits (omega arith) (omega arith));
       state = e ∙ take_state u job (Some d) admits;
     }
