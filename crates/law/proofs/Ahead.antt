@@ -92,7 +92,7 @@ module _ (served : Class → Bool) where
       ∙ sym (brings_of_cond x r n b (writer served x r n))
 
   pub writer-below : (x : Machine) (r n k : ℕ) → writer served x r n ≡ Some k → k < n
-  writer-below x r zero k e = let z : ◌≡◌ {A = ℕ} 0 1 = cc in absurd (omega arith)
+  writer-below x r zero k e = cc
   writer-below x r (suc n) k e = some_of_cond (writes served x n r) n k (writer served x r n) e (writer-below x r n k)
 
   pub writer_shift : (x : Machine) (r n : ℕ)

@@ -42,7 +42,7 @@ same_brought d (Done v n) = refl
 same_brought d Misaligned = refl
 
 is_done : {X : Type 0} (j : Judgement) → Some j ≡ None → X
-is_done j e = let z : ◌≡◌ {A = ℕ} 0 1 = cc in absurd (omega arith)
+is_done j e = cc
 
 some_same : (i j : Judgement) → Some i ≡ Some j → j ≡ i
 some_same i j e = cc

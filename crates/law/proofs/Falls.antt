@@ -5,7 +5,7 @@ use Rattle.units.specs.declared.job.Job.{Job}
 use Rattle.units.specs.Meaning.{Held, Fell, Holds, Moved}
 
 pub not_held : {X : Type 0} (h : Held) (o : Option Held) → o ≡ None → o ≡ Some h → X
-not_held h o e f = let z : ◌≡◌ {A = ℕ} 0 1 = cc in absurd (omega arith)
+not_held h o e f = cc
 
 some-held : (h k : Held) → Some h ≡ Some k → h ≡ k
 some-held h k e = cc

@@ -39,7 +39,7 @@ use Rattle.law.proofs.RegisterTags.{past_tags, tag_after, tagged-length}
 -- the entry -------------------------------------------------------------------------
 
 not_some : {X : Type 0} (j : Judgement) → None ≡ Some j → X
-not_some j e = let z : ◌≡◌ {A = ℕ} 0 1 = cc in absurd (omega arith)
+not_some j e = cc
 
 some_same : (i j : Judgement) → Some i ≡ Some j → j ≡ i
 some_same i j e = cc

@@ -35,7 +35,7 @@ use Rattle.law.proofs.Ticks.{dispatch-within, dispatch-refused, issue-within, fr
 -- when issue is refused ------------------------------------------------------------------------
 
 not_both : {X : Type 0} (a : Result ℕ IssueFault) (f : IssueFault) (t : ℕ) → a ≡ Err f → a ≡ Ok t → X
-not_both a f t e o = let z : ◌≡◌ {A = ℕ} 0 1 = cc in absurd (omega arith)
+not_both a f t e o = cc
 
 issue_ok : (full lacks : Bool) (s t : ℕ) → cond full (Err BufferFull) (cond lacks (Err NoStation) (Ok s)) ≡ Ok t
     → (full ≡ false) × (lacks ≡ false)

@@ -110,7 +110,7 @@ free_if_none (Some s ∷ l) h e = absurd h.0
 -- who goes ---------------------------------------------------------------------------
 
 not_some : {X : Type 0} (j : Job) → None ≡ Some j → X
-not_some j e = let z : ◌≡◌ {A = ℕ} 0 1 = cc in absurd (omega arith)
+not_some j e = cc
 
 tag_of_job : (a b : Operand) (s : Station) (j : Job) → job_with a b s ≡ Some j → j.tag ≡ s.tag
 tag_of_job (Value a) (Value b) s j e = cc

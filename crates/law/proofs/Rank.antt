@@ -49,7 +49,7 @@ module _ {A : Type 0} (m : UnitModel A) (stay : ℕ) where
 -- the station of the oldest entry ------------------------------------------------------------
 
 no_job : {X : Type 0} (j : Job) → None ≡ Some j → X
-no_job j e = let z : ◌≡◌ {A = ℕ} 0 1 = cc in absurd (omega arith)
+no_job j e = cc
 
 same_work : (a b : Class) (f g : Instruction) → Work a f ≡ Work b g → a ≡ b
 same_work a b f g e = cc

@@ -64,12 +64,12 @@ step_sized line w (Write rd v n) x h =
 
 outcome_writes : (d rd v n : ℕ) (o : Option Outcome) → judged_outcome d o ≡ Write rd v n → d ≡ rd
 outcome_writes d rd v n (Some (Done w p)) e = cc
-outcome_writes d rd v n (Some Misaligned) e = let z : ◌≡◌ {A = ℕ} 0 1 = cc in absurd (omega arith)
-outcome_writes d rd v n None e = let z : ◌≡◌ {A = ℕ} 0 1 = cc in absurd (omega arith)
+outcome_writes d rd v n (Some Misaligned) e = cc
+outcome_writes d rd v n None e = cc
 
 judged-writes : (d : Decoded) (x : Machine) (rd v n : ℕ) → judged d x ≡ Write rd v n → destination_of d ≡ rd
-judged-writes (AsksTrap c) x rd v n e = let z : ◌≡◌ {A = ℕ} 0 1 = cc in absurd (omega arith)
-judged-writes AsksReturn x rd v n e = let z : ◌≡◌ {A = ℕ} 0 1 = cc in absurd (omega arith)
+judged-writes (AsksTrap c) x rd v n e = cc
+judged-writes AsksReturn x rd v n e = cc
 judged-writes (Work c i) x rd v n e =
     outcome_writes i.rd rd v n (outcome_of i x.pc (register_of x i.rs1) (register_of x i.rs2)) e
 
@@ -120,7 +120,7 @@ module _ (served : Class → Bool) where
   -- the plan, shifted by one: the oldest entry is done, so nothing waits for it
   module _ (q : Buffer) (x : Machine) (j : Judgement) (done : (entry_at q 0).result ≡ Some j) where
     oldest_is_done : {X : Type 0} → (entry_at q 0).result ≡ None → X
-    oldest_is_done e = let z : ◌≡◌ {A = ℕ} 0 1 = cc in absurd (omega arith)
+    oldest_is_done e = cc
 
     still_waits : (n : ℕ) → (entry_at q (suc n)).result ≡ None → (entry_at (popped q) n).result ≡ None
     still_waits n e = ap (λ (y : Entry). y.result) (popped_at q n) ∙ e

@@ -23,7 +23,7 @@ use Rattle.law.proofs.Dispatching.{sender, takes}
 use Rattle.law.proofs.Rank.{DueWithin, Within, done, held, waiting, empty, nothing_held, within_one, head_goes, goes_with_room, room_when_empty}
 
 is_done : {X : Type 0} (j : Judgement) (o : Option Judgement) → o ≡ None → o ≡ Some j → X
-is_done j o e f = let z : ◌≡◌ {A = ℕ} 0 1 = cc in absurd (omega arith)
+is_done j o e f = cc
 
 module _ {A : Type 0} (m : UnitModel A) (keeps : Keeps m) (served : Class → Bool) (stay : ℕ)
     (c : Core) (u : A) (h : Tied m served stay c u) where

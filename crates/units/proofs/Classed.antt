@@ -13,7 +13,7 @@ use Rattle.units.specs.Jobs.{class_read, word_class, outcome_read, job_outcome}
 
 classed : (k : Option Class) (c : Class) (o : Outcome) → k ≡ Some c → if_classed k o ≡ Some o
 classed (Some d) c o e = refl
-classed None c o e = let z : ◌≡◌ {A = ℕ} 0 1 = cc in absurd (omega arith)
+classed None c o e = cc
 
 read_outcome : (r : Result Instruction IllegalWord) (c : Class) (pc a b : ℕ)
     → class_read r ≡ Some c → (o : Outcome) × (outcome_read r pc a b ≡ Some o)
