@@ -1,6 +1,7 @@
 -- Complete keeps the tie: the entry whose tag arrived is done with the plan's result, and those that wait for it get its value.
 -- Assumes nothing.
 use Rattle.std.proofs.Common.{◌≡◌, ℕ, ◌<◌, ◌≤◌, Bool, true, false, eqb, Some, None, Option, sym, refl, ap, ◌∙◌, subst, inl, inr, arith}
+use Rattle.std.proofs.lemmas.Option.{none-some}
 use Rattle.std.proofs.lemmas.Bool.{true≢false, eqb-true, eqb-false, eq-eqb, ne_eqb, cond_both}
 use Rattle.std.proofs.lemmas.Bool.Decides.{eqb_tells}
 use Rattle.isa.specs.declared.instruction.Instruction.{Instruction}
@@ -9,7 +10,6 @@ use Rattle.isa.specs.declared.outcome.Outcome.{Outcome}
 use Rattle.isa.specs.declared.outcome.Outcome.TheVariants.{Done, Misaligned}
 use Rattle.execute.specs.Outcomes.{outcome_of}
 use Rattle.machine.specs.declared.decode.Decoded.{Decoded}
-use Rattle.machine.specs.declared.judgement.Judgement.{Judgement}
 use Rattle.machine.specs.declared.state.Machine.{Machine}
 use Rattle.machine.specs.States.{register_of}
 use Rattle.machine.specs.Step.{fetched, judged_outcome, judged, judgement_of}
@@ -40,12 +40,6 @@ use Rattle.law.proofs.Falls.{not_held, was-held, stays-held, was_not_offered, mo
 same_brought : (d : ℕ) (o : Outcome) → outcome_brings o ≡ brings (judged_outcome d (Some o))
 same_brought d (Done v n) = refl
 same_brought d Misaligned = refl
-
-is_done : {X : Type 0} (j : Judgement) → Some j ≡ None → X
-is_done j e = cc
-
-some_same : (i j : Judgement) → Some i ≡ Some j → j ≡ i
-some_same i j e = cc
 
 module _ (served : Class → Bool) (q : Buffer) (x : Machine) where
   job-finishes : (t d : ℕ) (j : Job) (o : Outcome) (h : JobTied served q x t j) → job_outcome j ≡ Some o
@@ -143,7 +137,7 @@ entry_finished served y e o h is =
       pc = h.pc;
       word = h.word;
       destination = h.destination;
-      result = λ j found. some_same (judged_outcome e.destination (Some o)) j found ∙ is;
+      result = λ j found. cc;
     }
 
 -- the core when the outcome for the entry in slot t has arrived
@@ -289,9 +283,9 @@ module _ {A : Type 0} (m : UnitModel A) (served : Class → Bool) (stay : ℕ) (
                 h.work.apart;
             somewhere = λ n lt is.
                 let other : n ≡ i → ⊥ = λ same.
-                is_done (judged_outcome (entry_at q i).destination (Some o.outcome))
-                (sym (ap (λ (y : Entry). y.result) (replaced_at q e i shape.entries))
-                ∙ (ap (λ (y : ℕ). (entry_at (replaced (slot_at q i) e q) y).result) (sym same) ∙ is)) in
+                absurd (none-some _ (sym is
+                ∙ (ap (λ (y : ℕ). (entry_at (replaced (slot_at q i) e q) y).result) same
+                ∙ ap (λ (y : Entry). y.result) (replaced_at q e i shape.entries)))) in
                 let lt16 : n < 16 = omega (arith, few, lt) in
                 let i16 : i < 16 = omega (arith, few, below) in
                 let before : (entry_at q n).result ≡ None = sym (ap (λ (y : Entry). y.result) (replaced_other q e i n i16 lt16 other)) ∙ is in

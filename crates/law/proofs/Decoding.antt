@@ -1,6 +1,6 @@
 -- What is known of a word that asks for a unit.
 -- Assumes nothing.
-use Rattle.std.proofs.Common.{◌≡◌, ℕ, Bool, true, false, cond, Some, None, Ok, Err, Option, Result, sym, refl, ap, ◌∙◌, arith}
+use Rattle.std.proofs.Common.{◌≡◌, ℕ, Bool, true, false, cond, Some, None, Ok, Err, Option, Result, refl, ap, ◌∙◌}
 use Rattle.isa.specs.declared.instruction.Instruction.{Instruction}
 use Rattle.isa.specs.declared.operation.Class.{Class}
 use Rattle.isa.specs.declared.operation.Kind.{Kind}
@@ -9,9 +9,8 @@ use Rattle.isa.specs.Classes.{kind_of, class_part}
 use Rattle.refusal.specs.declared.IllegalWord.{IllegalWord}
 use Rattle.words.specs.Words.{read_word}
 use Rattle.execute.specs.Outcomes.{outcome_of}
-use Rattle.machine.specs.declared.cause.Cause.{Cause}
 use Rattle.machine.specs.declared.cause.Cause.TheVariants.{IllegalInstruction}
-use Rattle.machine.specs.declared.decode.Decoded.TheVariants.{Trap, Return, Work}
+use Rattle.machine.specs.declared.decode.Decoded.TheVariants.{Trap, Work}
 use Rattle.machine.specs.Decode.{kind_decoded, read_decoded, decoded}
 use Rattle.machine.specs.Step.{word_or0}
 use Rattle.units.specs.declared.job.Job.{Job}
@@ -37,15 +36,6 @@ decoded_same s t (Some w) h = read_decoded_same s t (read_word w) h
 
 -- a word that asks for a unit ---------------------------------------------------
 
-not_trap : {X : Type 0} (a : Cause) (c : Class) (i : Instruction) → Trap a ≡ Work c i → X
-not_trap a c i e = cc
-
-not_return : {X : Type 0} (c : Class) (i : Instruction) → Return ≡ Work c i → X
-not_return c i e = cc
-
-same_work : (c d : Class) (i j : Instruction) → Work d j ≡ Work c i → (d ≡ c) × (j ≡ i)
-same_work c d i j e = (cc, cc)
-
 module _ (served : Class → Bool) (c : Class) (i : Instruction) where
   -- what is known of the class k and the reading r of a word that asks for a unit of class c to work out i
   record Asks (k : Option Class) (r : Result Instruction IllegalWord) : Type 0 where
@@ -56,22 +46,21 @@ module _ (served : Class → Bool) (c : Class) (i : Instruction) where
   worked-asks : (d : Class) (j : Instruction) (b : Bool) → served d ≡ b
       → cond b (Work d j) (Trap IllegalInstruction) ≡ Work c i → Asks (Some d) (Ok j)
   worked-asks d j true s e =
-      let same = same_work c d i j e in
-      record { is_served = ap served (sym same.0) ∙ s; class = ap Some same.0; read = ap Ok same.1 }
-  worked-asks d j false s e = not_trap IllegalInstruction c i e
+      record { is_served = cc; class = cc; read = cc }
+  worked-asks d j false s e = cc
 
   kind_asks : (k : Kind) (j : Instruction) → kind_decoded served j k ≡ Work c i → Asks (class_part k) (Ok j)
   kind_asks (Worked d) j e = worked-asks d j (served d) refl e
-  kind_asks EnvironmentCall j e = not_trap _ c i e
-  kind_asks Breakpoint j e = not_trap _ c i e
-  kind_asks TrapReturn j e = not_return c i e
+  kind_asks EnvironmentCall j e = cc
+  kind_asks Breakpoint j e = cc
+  kind_asks TrapReturn j e = cc
 
   read-asks : (r : Result Instruction IllegalWord) → read_decoded served r ≡ Work c i → Asks (class_read r) r
   read-asks (Ok j) e = kind_asks (kind_of j.operation) j e
-  read-asks (Err f) e = not_trap IllegalInstruction c i e
+  read-asks (Err f) e = cc
 
   word_asks : (w : Option ℕ) → decoded served w ≡ Work c i → Asks (word_class (word_or0 w)) (read_word (word_or0 w))
-  word_asks None e = not_trap _ c i e
+  word_asks None e = cc
   word_asks (Some w) e = read-asks (read_word w) e
 
 module _ (served : Class → Bool) (w : Option ℕ) (c : Class) (i : Instruction) (e : decoded served w ≡ Work c i) where

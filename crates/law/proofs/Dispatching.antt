@@ -1,6 +1,6 @@
 -- Dispatch keeps the tie: an instruction moves from its station to the unit, with the plan's operands.
 -- Assumes nothing.
-use Rattle.std.proofs.Common.{◌≡◌, ℕ, Bool, true, ◌⊎◌, map, Some, None, sym, refl, ap, ◌∙◌, subst, inl, inr, arith}
+use Rattle.std.proofs.Common.{◌≡◌, ℕ, Bool, true, ◌⊎◌, map, Some, None, sym, refl, ap, ◌∙◌, subst, inl, inr}
 use Rattle.std.proofs.lemmas.Bool.Decides.{eqb_tells}
 use Rattle.isa.specs.declared.operation.Class.{Class}
 use Rattle.machine.specs.declared.state.Machine.{Machine}
@@ -31,23 +31,17 @@ pub record JobFrom (s : Station) (j : Job) : Type 0 where
   pub a : s.a ≡ Value j.a
   pub b : s.b ≡ Value j.b
 
-no_job : {X : Type 0} (j : Job) → None ≡ Some j → X
-no_job j e = cc
-
-some-job : (i j : Job) → Some i ≡ Some j → i ≡ j
-some-job i j e = cc
-
 job-from : (s : Station) (j : Job) (a b : Operand) → s.a ≡ a → s.b ≡ b → job_with a b s ≡ Some j → JobFrom s j
 job-from s j (Value v) (Value w) ea eb e =
-    let same = some-job (record { tag = s.tag; word = s.word; pc = s.pc; a = v; b = w }) j e in
+    let same : ◌≡◌ {A = Job} (record { tag = s.tag; word = s.word; pc = s.pc; a = v; b = w }) j = cc in
     record {
       word = ap (λ (y : Job). y.word) (sym same);
       pc = ap (λ (y : Job). y.pc) (sym same);
       a = ea ∙ ap (λ (y : Job). Value y.a) same;
       b = eb ∙ ap (λ (y : Job). Value y.b) same;
     }
-job-from s j (Value v) (Awaits t) ea eb e = no_job j e
-job-from s j (Awaits t) b ea eb e = no_job j e
+job-from s j (Value v) (Awaits t) ea eb e = cc
+job-from s j (Awaits t) b ea eb e = cc
 
 module _ (served : Class → Bool) (q : Buffer) (x : Machine) where
   -- a station with both operands has the plan's job

@@ -7,9 +7,6 @@ use Rattle.units.specs.Meaning.{Held, Fell, Holds, Moved}
 pub not_held : {X : Type 0} (h : Held) (o : Option Held) → o ≡ None → o ≡ Some h → X
 not_held h o e f = cc
 
-some-held : (h k : Held) → Some h ≡ Some k → h ≡ k
-some-held h k e = cc
-
 -- what is held afterwards was held before, as the same job with a higher due
 pub record Was (k : ℕ) (o : Option Held) (h' : Held) : Type 0 where
   pub held : Held
@@ -18,11 +15,11 @@ pub record Was (k : ℕ) (o : Option Held) (h' : Held) : Type 0 where
   pub due : h'.due + k ≤ held.due
 
 pub was-held : (k : ℕ) (o o' : Option Held) (h' : Held) → Fell k o o' → o' ≡ Some h' → Was k o h'
-was-held k None None h' f e = not_held h' None refl e
+was-held k None None h' f e = cc
 was-held k None (Some p) h' f e = absurd f
-was-held k (Some h) None h' f e = not_held h' None refl e
+was-held k (Some h) None h' f e = cc
 was-held k (Some h) (Some p) h' f e =
-    let same : p ≡ h' = some-held p h' e in
+    let same : p ≡ h' = cc in
     record {
       held = h;
       is = refl;
@@ -37,15 +34,16 @@ pub record Stays (k : ℕ) (h : Held) (o' : Option Held) : Type 0 where
   pub due : held.due + k ≤ h.due
 
 pub stays-held : (k : ℕ) (o o' : Option Held) (h : Held) → Fell k o o' → o ≡ Some h → Stays k h o'
-stays-held k None o' h f e = not_held h None refl e
+stays-held k None o' h f e = cc
 stays-held k (Some p) None h f e = absurd f
 stays-held k (Some p) (Some h') h f e =
-    record { held = h'; is = refl; due = omega (arith, f.1, ap (λ (y : Held). y.due) (some-held p h e)) }
+    let same : p ≡ h = cc in
+    record { held = h'; is = refl; due = omega (arith, f.1, ap (λ (y : Held). y.due) same) }
 
 pub stays_free : (k : ℕ) (o o' : Option Held) → Fell k o o' → o ≡ None → o' ≡ None
 stays_free k None None f e = refl
 stays_free k None (Some p) f e = absurd f
-stays_free k (Some h) o' f e = not_held h None refl (sym e)
+stays_free k (Some h) o' f e = cc
 
 -- the job that was taken is held
 pub holds_it : (j : Job) (o : Option Held) → Holds j o → (h : Held) × (o ≡ Some h) × (h.job ≡ j)
@@ -54,11 +52,11 @@ holds_it j (Some h) f = (h, refl, f)
 
 pub holds_only : (j : Job) (o : Option Held) (h : Held) → Holds j o → o ≡ Some h → h.job ≡ j
 holds_only j None h f e = absurd f
-holds_only j (Some p) h f e = ap (λ (y : Held). y.job) (sym (some-held p h e)) ∙ f
+holds_only j (Some p) h f e = cc
 
 -- of a step that was accepted: what is held afterwards was not offered
 pub was_not_offered : (b : Bool) (o o' : Option Held) (h' : Held) → Moved true b o o' → o' ≡ Some h' → (b ≡ false) × Fell 1 o o'
-was_not_offered true o o' h' f e = not_held h' o' f e
+was_not_offered true o o' h' f e = cc
 was_not_offered false o o' h' f e = (refl, f)
 
 pub moved_free : (b : Bool) (o o' : Option Held) → Moved true b o o' → o ≡ None → o' ≡ None

@@ -38,12 +38,6 @@ use Rattle.law.proofs.RegisterTags.{past_tags, tag_after, tagged-length}
 
 -- the entry -------------------------------------------------------------------------
 
-not_some : {X : Type 0} (j : Judgement) → None ≡ Some j → X
-not_some j e = cc
-
-some_same : (i j : Judgement) → Some i ≡ Some j → j ≡ i
-some_same i j e = cc
-
 module _ (served : Class → Bool) where
   -- an entry that is made for what the plan asks is the plan's
   entry_for_lem : (y : Machine) (pc w : ℕ) (d : Decoded) → pc ≡ y.pc → w ≡ word_or0 (fetched y) → d ≡ asks served y
@@ -53,17 +47,17 @@ module _ (served : Class → Bool) where
         pc = p;
         word = v;
         destination = ap destination_of e;
-        result = λ j is. some_same (Trap c) j is ∙ ap (λ (d : Decoded). judged d y) e;
+        result = λ j is. let same : j ≡ Trap c = cc in same ∙ ap (λ (d : Decoded). judged d y) e;
       }
   entry_for_lem y pc w AsksReturn p v e =
       record {
         pc = p;
         word = v;
         destination = ap destination_of e;
-        result = λ j is. some_same Return j is ∙ ap (λ (d : Decoded). judged d y) e;
+        result = λ j is. let same : j ≡ Return = cc in same ∙ ap (λ (d : Decoded). judged d y) e;
       }
   entry_for_lem y pc w (Work c i) p v e =
-      record { pc = p; word = v; destination = ap destination_of e; result = λ j is. not_some j is }
+      record { pc = p; word = v; destination = ap destination_of e; result = λ j is. cc }
 
   -- what was tied stays tied behind a new entry ---------------------------------------
 
@@ -235,8 +229,8 @@ module _ {A : Type 0} (m : UnitModel A) (served : Class → Bool) (stay : ℕ) (
   -- a new entry that is not done has a station
   new_in : (d : Decoded) → (needs_station d && not (any_free c.stations.places)) ≡ false
       → (entry_for c.fetch (word_or0 (fetched_word c)) d).result ≡ None → InStation (slot_at c.buffer c.buffer.count) (stations_for d c).places
-  new_in (AsksTrap k) free is = not_some (Trap k) (sym is)
-  new_in AsksReturn free is = not_some Return (sym is)
+  new_in (AsksTrap k) free is = cc
+  new_in AsksReturn free is = cc
   new_in (Work a f) free is = in_placed_new (new_station c a f) c.stations.places (free-place (any_free c.stations.places) free)
     where
       free-place : (b : Bool) → not b ≡ false → b ≡ true

@@ -34,20 +34,17 @@ use Rattle.law.proofs.Ticks.{dispatch-within, dispatch-refused, issue-within, fr
 
 -- when issue is refused ------------------------------------------------------------------------
 
-not_both : {X : Type 0} (a : Result ℕ IssueFault) (f : IssueFault) (t : ℕ) → a ≡ Err f → a ≡ Ok t → X
-not_both a f t e o = cc
-
 issue_ok : (full lacks : Bool) (s t : ℕ) → cond full (Err BufferFull) (cond lacks (Err NoStation) (Ok s)) ≡ Ok t
     → (full ≡ false) × (lacks ≡ false)
-issue_ok true lacks s t e = not_both (Err BufferFull) BufferFull t refl e
-issue_ok false true s t e = not_both (Err NoStation) NoStation t refl e
+issue_ok true lacks s t e = cc
+issue_ok false true s t e = cc
 issue_ok false false s t e = (refl, refl)
 
 issue_err : (full lacks : Bool) (s : ℕ) (f : IssueFault) → cond full (Err BufferFull) (cond lacks (Err NoStation) (Ok s)) ≡ Err f
     → (full ≡ true) ⊎ (lacks ≡ true)
 issue_err true lacks s f e = inl refl
 issue_err false true s f e = inr refl
-issue_err false false s f e = not_both (Ok s) f s e refl
+issue_err false false s f e = cc
 
 -- the core as programmers see it, with its line
 abbrev pub seen_core : Core → Fed

@@ -109,25 +109,22 @@ free_if_none (Some s ∷ l) h e = absurd h.0
 
 -- who goes ---------------------------------------------------------------------------
 
-not_some : {X : Type 0} (j : Job) → None ≡ Some j → X
-not_some j e = cc
-
 tag_of_job : (a b : Operand) (s : Station) (j : Job) → job_with a b s ≡ Some j → j.tag ≡ s.tag
 tag_of_job (Value a) (Value b) s j e = cc
-tag_of_job (Value a) (Awaits t) s j e = not_some j e
-tag_of_job (Awaits t) b s j e = not_some j e
+tag_of_job (Value a) (Awaits t) s j e = cc
+tag_of_job (Awaits t) b s j e = cc
 
 pub job-tag : (s : Station) (j : Job) → job_of s ≡ Some j → j.tag ≡ s.tag
 job-tag s j e = tag_of_job s.a s.b s j e
 
 -- what a choice between a job and none says where it gives a job
 some_unless : (b : Bool) (o : Option Job) (j : Job) → cond b None o ≡ Some j → o ≡ Some j
-some_unless true o j e = not_some j e
+some_unless true o j e = cc
 some_unless false o j e = e
 
 some_if : (b : Bool) (o : Option Job) (j : Job) → cond b o None ≡ Some j → (b ≡ true) × (o ≡ Some j)
 some_if true o j e = (refl, e)
-some_if false o j e = not_some j e
+some_if false o j e = cc
 
 module _ (h : ℕ) where
   -- the older of two is one of them
@@ -140,10 +137,10 @@ module _ (h : ℕ) where
 
   older_none : (x y : Option Job) → older h x y ≡ None → (x ≡ None) × (y ≡ None)
   older_none None y e = (refl, e)
-  older_none (Some x) None e = not_some x (sym e)
+  older_none (Some x) None e = cc
   older_none (Some x) (Some y) e =
       cond_both (leb (age h x.tag) (age h y.tag)) (Some x) (Some y)
-      (λ o. o ≡ None → (Some x ≡ None) × (Some y ≡ None)) (λ _ f. not_some x (sym f)) (λ _ f. not_some y (sym f)) e
+      (λ o. o ≡ None → (Some x ≡ None) × (Some y ≡ None)) (λ _ f. cc) (λ _ f. cc) e
 
   -- n entries or more are older than that of the job, if there is one
   abbrev Aged : ℕ → Option Job → Type 0
@@ -167,7 +164,7 @@ module _ (h : ℕ) where
 module _ (room : Class → Bool) (h : ℕ) where
   ready-from : (P : Station → Type 0) (l : List (Option Station)) (j : Job) → oldest_ready room h l ≡ Some j → AllStations P l
       → (s : Station) × (job_of s ≡ Some j) × (room s.class ≡ true) × P s
-  ready-from P [] j e p = not_some j e
+  ready-from P [] j e p = cc
   ready-from P (None ∷ l) j e p = ready-from P l j e p
   ready-from P (Some s ∷ l) j e p =
       elim (older_is h (candidate room (Some s)) (oldest_ready room h l) j e) [

@@ -1,6 +1,7 @@
 -- The rank: a bound on the cycle calls until a retirement, by where the oldest entry is.
 -- Assumes nothing.
 use Rattle.std.proofs.Common.{◌≡◌, ℕ, ◌+◌, ◌<◌, ◌≤◌, Bool, true, false, Some, None, Option, sym, refl, ap, ◌∙◌, subst, inl, inr, arith}
+use Rattle.std.proofs.lemmas.Option.{none-some}
 use Rattle.std.proofs.lemmas.Bool.{cases_Bool, cases_lt}
 use Rattle.isa.specs.declared.instruction.Instruction.{Instruction}
 use Rattle.isa.specs.declared.operation.Class.{Class}
@@ -47,9 +48,6 @@ module _ {A : Type 0} (m : UnitModel A) (stay : ℕ) where
   within_one low gap c u n g (empty none le) = omega (arith, le, g)
 
 -- the station of the oldest entry ------------------------------------------------------------
-
-no_job : {X : Type 0} (j : Job) → None ≡ Some j → X
-no_job j e = cc
 
 same_work : (a b : Class) (f g : Instruction) → Work a f ≡ Work b g → a ≡ b
 same_work a b f g e = cc
@@ -147,7 +145,7 @@ module _ {A : Type 0} (m : UnitModel A) (keeps : Keeps m) (served : Class → Bo
         let z = with_all (λ s. m.room u s.class ≡ true → job_of s ≡ None) stuck in
         let tag : z.0.tag ≡ c.buffer.head = z.1 ∙ head_slot in
         let roomy : m.room u z.0.class ≡ true = ap (m.room u) (one_class z.0 first z.2.0 head-station.2 tag first_tag) ∙ room in
-        no_job (oldest_of z.0 z.2.0 tag).job (sym (z.2.1 roomy) ∙ (oldest_of z.0 z.2.0 tag).ready)
+        absurd (none-some _ (sym (z.2.1 roomy) ∙ (oldest_of z.0 z.2.0 tag).ready))
 
     -- and it is the oldest entry
     pub head_goes : (j : Job) → goes (m.room u) c.buffer.head c.stations.places ≡ Some j → j.tag ≡ slot_at c.buffer 0
@@ -156,7 +154,7 @@ module _ {A : Type 0} (m : UnitModel A) (keeps : Keeps m) (served : Class → Bo
         let room : m.room u first.class ≡ true =
         elim (cases_Bool (m.room u first.class)) [
           | inl has ↦ has
-          | inr lacks ↦ no_job j (sym (waits_for_room lacks) ∙ is)
+          | inr lacks ↦ absurd (none-some j (sym (waits_for_room lacks) ∙ is))
         ] in
         let from = goes_from (m.room u) q.head (StationTied served q c.machine) c.stations.places j is h.work.stations in
         let job = job-tied served q c.machine from.0 j from.3 from.1 in

@@ -1,6 +1,7 @@
 -- No call raises the rank, and complete and dispatch together lower it.
 -- Assumes nothing.
 use Rattle.std.proofs.Common.{◌≡◌, ℕ, zero, suc, ◌<◌, ◌≤◌, Bool, true, false, not, ◌&&◌, ◌⊎◌, Some, None, Option, sym, refl, ap, ◌∙◌, subst, inl, inr, arith}
+use Rattle.std.proofs.lemmas.Option.{none-some}
 use Rattle.std.proofs.lemmas.Bool.{true≢false, eqb-true}
 use Rattle.isa.specs.declared.operation.Class.{Class}
 use Rattle.machine.specs.declared.judgement.Judgement.{Judgement}
@@ -21,9 +22,6 @@ use Rattle.law.proofs.Falls.{not_held, was-held, Stays, stays-held, was_not_offe
 use Rattle.law.proofs.Issuing.{still_in, issue-keeps}
 use Rattle.law.proofs.Dispatching.{sender, takes}
 use Rattle.law.proofs.Rank.{DueWithin, Within, done, held, waiting, empty, nothing_held, within_one, head_goes, goes_with_room, room_when_empty}
-
-is_done : {X : Type 0} (j : Judgement) (o : Option Judgement) → o ≡ None → o ≡ Some j → X
-is_done j o e f = cc
 
 module _ {A : Type 0} (m : UnitModel A) (keeps : Keeps m) (served : Class → Bool) (stay : ℕ)
     (c : Core) (u : A) (h : Tied m served stay c u) where
@@ -118,7 +116,7 @@ module _ {A : Type 0} (m : UnitModel A) (keeps : Keeps m) (served : Class → Bo
         let job = the_job o is in
         let e = finished_entry o.outcome (entry_in q o.tag) in
         let other : 0 ≡ job.index → ⊥ =
-        λ same. is_done j (entry_at q 0).result (ap (λ (n : ℕ). (entry_at q n).result) same ∙ job.asked.waits) at in (
+        λ same. absurd (none-some j (sym (ap (λ (n : ℕ). (entry_at q n).result) same ∙ job.asked.waits) ∙ at)) in (
           j,
           ap (λ (y : Entry). y.result)
               (ap (λ (t : ℕ). entry_at (replaced t e q) 0) job.asked.tag
@@ -173,7 +171,7 @@ module _ {A : Type 0} (m : UnitModel A) (keeps : Keeps m) (served : Class → Bo
     -- unless the oldest entry is done, one call fewer is left
     pub complete_ticks : (n : ℕ) → (entry_at c.buffer 0).result ≡ None ⊎ (c.buffer.count ≡ 0) → Within m stay 1 3 c u (suc n)
         → Within m stay 0 2 (completed_by (m.offer u) c) u' n
-    complete_ticks n (inl not_done) (done j some at le) = is_done j (entry_at c.buffer 0).result not_done at
+    complete_ticks n (inl not_done) (done j some at le) = cc
     complete_ticks n (inr none) (done j some at le) = absurd (omega (arith, none, some))
     complete_ticks n not_done (held k some at le) =
         held_after k n some at (omega (arith, le)) (offers_tag (m.offer u) (slot_at c.buffer 0)) refl
