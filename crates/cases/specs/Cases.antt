@@ -21,9 +21,7 @@ use Rattle.machine.specs.Records.{retirement_number}
 use Rattle.machine.specs.States.{fresh, load_state, register_of}
 use Rattle.machine.specs.Step.{judged_outcome, step, steps}
 use Rattle.law.specs.Laws.{wait}
-use Rattle.pipelines.specs.declared.plain.Plain.{Plain}
-use Rattle.pipelines.specs.declared.multiplier.Multiplier.{Multiplier}
-use Rattle.pipelines.specs.Supplied.{plain, multiplier}
+use Rattle.pipelines.specs.Supplied.{Plain, Multiplier, plain, multiplier}
 use Rattle.divider.specs.declared.Divider.{Divider}
 use Rattle.divider.specs.Model.{model as divider}
 use Rattle.join.specs.declared.Join.{Join}

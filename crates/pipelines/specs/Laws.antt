@@ -106,10 +106,10 @@ module _ {A : Type 0} (L N : ℕ) (serves : Class → Bool) (jobs : A → List T
 
   takes_if : (u u' : A) (j : Job) (room : Bool)
       → (room ≡ true → (length (jobs u) < N) × ((o : Outcome) × (job_outcome j ≡ Some o)))
-      → (jobs u' ≡ jobs u → u' ≡ u) → jobs u' ≡ cond room (pushed j (jobs u)) (jobs u)
+      → (room ≡ false → u' ≡ u) → jobs u' ≡ cond room (pushed j (jobs u)) (jobs u)
       → Taken unit room u j u'
-  takes_if u u' j false fit one e = one e
-  takes_if u u' j true fit one e = λ s none.
+  takes_if u u' j false fit refused e = refused refl
+  takes_if u u' j true fit refused e = λ s none.
       let n = none_tagged L 0 (jobs u) j.tag none in
       let f = fit refl in (
         record {
@@ -119,6 +119,7 @@ module _ {A : Type 0} (L N : ℕ) (serves : Class → Bool) (jobs : A → List T
         subst (Sound N) (sym e) (sound-pushed N j (jobs u) f.0 f.1.0 f.1.1 n s),
       )
 
-  pub takes : (u u' : A) (j : Job) → (jobs u' ≡ jobs u → u' ≡ u) → jobs u' ≡ taken N serves j (jobs u)
+  pub takes : (u u' : A) (j : Job) → (room_in (room_left N serves (jobs u)) (word_class j.word) ≡ false → u' ≡ u)
+      → jobs u' ≡ taken N serves j (jobs u)
       → Taken unit (room_in (room_left N serves (jobs u)) (word_class j.word)) u j u'
   takes u u' j = takes_if u u' j (room_in (room_left N serves (jobs u)) (word_class j.word)) (fits u j)

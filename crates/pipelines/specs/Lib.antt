@@ -1,9 +1,9 @@
 pub mod Pipelines
 pub mod Queues
+pub mod Services
 pub mod Supplied
 pub mod Laws
 pub mod Dues
 pub mod Cases
 pub mod Steps
-pub mod MultiplierUnitLemmas
-pub mod PlainUnitLemmas
+pub mod PipelineUnitLemmas

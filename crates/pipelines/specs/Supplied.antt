@@ -1,30 +1,23 @@
 -- The two pipelines that are supplied.
 -- Assumes nothing.
-use Rattle.std.specs.Prelude.{Bool, true, false}
-use Rattle.isa.specs.declared.operation.Class.{Class}
-use Rattle.isa.specs.declared.operation.Class.TheVariants.{Plain as PlainClass, Multiply, Divide, Transfer}
 use Rattle.units.specs.Meaning.{UnitModel}
-use Rattle.pipelines.specs.declared.plain.Plain.{Plain}
-use Rattle.pipelines.specs.declared.multiplier.Multiplier.{Multiplier}
-use Rattle.pipelines.specs.Queues.{jobs_of}
+use Rattle.pipelines.specs.declared.pipeline.Pipeline.{Pipeline}
+use Rattle.pipelines.specs.declared.plain.PlainService.{PlainService}
+use Rattle.pipelines.specs.declared.multiplier.MultiplyService.{MultiplyService}
+use Rattle.pipelines.specs.PipelineUnitLemmas.{jobs}
 use Rattle.pipelines.specs.Pipelines.{pipeline}
+use Rattle.pipelines.specs.Services.{serves_plain, serves_multiply}
 
-abbrev pub serves_plain : Class → Bool
-serves_plain PlainClass = true
-serves_plain Multiply = false
-serves_plain Divide = false
-serves_plain Transfer = true
+abbrev pub Plain : Type 0
+Plain = Pipeline PlainService
 
 -- no latency, two jobs
 abbrev pub plain : UnitModel Plain
-plain = pipeline 0 2 serves_plain (λ u. jobs_of u.queue)
+plain = pipeline 0 2 serves_plain jobs
 
-abbrev pub serves_multiply : Class → Bool
-serves_multiply PlainClass = false
-serves_multiply Multiply = true
-serves_multiply Divide = false
-serves_multiply Transfer = false
+abbrev pub Multiplier : Type 0
+Multiplier = Pipeline MultiplyService
 
 -- a latency of three steps, four jobs
 abbrev pub multiplier : UnitModel Multiplier
-multiplier = pipeline 3 4 serves_multiply (λ u. jobs_of u.queue)
+multiplier = pipeline 3 4 serves_multiply jobs
