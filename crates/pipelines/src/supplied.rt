@@ -1,6 +1,6 @@
 // The two pipelines that are supplied, as units.
-ghost use Rattle.std.specs.Prelude.{◌≡◌};
 ghost use Rattle.pipelines.specs.Supplied.{plain, multiplier};
+ghost use Rattle.units.specs.Meaning.{SameModel};
 
 use crate::multiplier::Multiplier;
 use crate::plain::Plain;
@@ -8,6 +8,6 @@ use units::unit::Unit;
 
 // What each of the two means: a law, and no step of a run.
 pub fn supplied_mean()
-    ensures plain { ⟦<Plain as Unit>⟧.means ≡ plain }
-    ensures multiplier { ⟦<Multiplier as Unit>⟧.means ≡ multiplier }
+    ensures plain { SameModel ⟦<Plain as Unit>⟧.means plain }
+    ensures multiplier { SameModel ⟦<Multiplier as Unit>⟧.means multiplier }
 {}

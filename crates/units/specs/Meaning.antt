@@ -26,6 +26,15 @@ pub record UnitModel (A : Type 0) : Type 1 where
   -- what is offered now
   pub offer : A → Option Offer
 
+-- two models that say the same of a unit
+pub record SameModel {A : Type 0} (m n : UnitModel A) : Type 0 where
+  pub sound : (u : A) → (m.sound u → n.sound u) × (n.sound u → m.sound u)
+  pub serves : m.serves ≡ n.serves
+  pub stay : m.stay ≡ n.stay
+  pub held : m.held ≡ n.held
+  pub room : m.room ≡ n.room
+  pub offer : m.offer ≡ n.offer
+
 -- what holds of one state -----------------------------------------------------
 
 module _ {A : Type 0} (m : UnitModel A) where
