@@ -6,7 +6,8 @@
 #![tactic(auto)]
 
 ghost use Rattle.std.specs.Prelude.{◌≡◌};
-ghost use Rattle.units.specs.Meaning.{Same, room_for, take_answer, Taken, Stepped, Empty};
+ghost use Rattle.units.specs.Calls.{TakeCall, StepCall, ClearCall};
+ghost use Rattle.units.specs.Meaning.{room_for, take_answer, Empty};
 ghost use Rattle.divider.specs.States.{idle, took_in, stepped_in};
 ghost use Rattle.divider.specs.Model.{model, Sound};
 ghost use Rattle.divider.specs.Meets.{keeps};
@@ -52,8 +53,7 @@ impl Unit for Divider {
 
     fn take(&mut self, job: Job) -> Result<(), NoRoom>
         ensures answer { result ≡ take_answer (room_for model self.old job.word) }
-        ensures same { Same model self.old self.new }
-        ensures taken { Taken model (room_for model self.old job.word) self.old job self.new }
+        ensures does { TakeCall model self.old job self.new }
         ensures state { self.new ≡ took_in self.old job }
     {
         match self.state.admit(job.word) {
@@ -79,8 +79,7 @@ impl Unit for Divider {
     }
 
     fn step(&mut self, accepted: bool)
-        ensures same { Same model self.old self.new }
-        ensures stepped { Sound self.old → Stepped model self.old accepted self.new × Sound self.new }
+        ensures does { StepCall model self.old accepted self.new }
         ensures state { self.new ≡ stepped_in accepted self.old }
     {
         match (self.state, accepted) {
@@ -91,9 +90,7 @@ impl Unit for Divider {
     }
 
     fn clear(&mut self)
-        ensures same { Same model self.old self.new }
-        ensures empty { Empty model self.new }
-        ensures sound { Sound self.new }
+        ensures does { ClearCall model self.old self.new }
         ensures state { self.new ≡ idle }
     {
         self.state = State::Idle;

@@ -17,7 +17,9 @@ returns-in-Working-default c =
     let e : ◌≡◌ {A = Divider} (record { state = c.next-self.result }) (stepped_in a u) =
     ap (λ (s : State). record { state = s }) next in
     record {
-      same = record { serves = λ c. refl; stay = refl };
-      stepped = λ sound. subst (λ (v : Divider). Stepped model u a v × Sound v) (sym e) (step_meets a u sound);
+      does = record {
+        same = record { serves = λ c. refl; stay = refl };
+        stepped = λ sound. subst (λ (v : Divider). Stepped model u a v × Sound v) (sym e) (step_meets a u sound);
+      };
       state = e;
     }

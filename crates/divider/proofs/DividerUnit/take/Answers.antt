@@ -5,7 +5,7 @@ use Rattle.divider.specs.declared.Divider.{Divider}
 use Rattle.divider.specs.declared.working.Working.{Working as Work}
 use Rattle.divider.specs.declared.state.State.TheVariants.{Working}
 use Rattle.divider.specs.States.{admitted, start_of}
-use Rattle.divider.specs.Model.{model, Sound}
+use Rattle.divider.specs.Model.{model}
 use Rattle.divider.specs.Meets.{take_state, take_answer_lem, take_meets}
 use Rattle.divider.proofs.DividerUnit.take.Goals as goal
 
@@ -19,10 +19,12 @@ returns-in-Some c =
     ap (λ (w : Work). record { state = Working w }) c.start.ensures in
     record {
       answer = take_answer_lem u job (Some d) admits;
-      same = record { serves = λ c. refl; stay = refl };
-      taken =
-          subst (λ (v : Divider). Taken model (room_for model u job.word) u job v) (sym e)
-          (take_meets u job (Some d) admits (omega arith) (omega arith));
+      does = record {
+        same = record { serves = λ c. refl; stay = refl };
+        taken =
+            subst (λ (v : Divider). Taken model (room_for model u job.word) u job v) (sym e)
+            (take_meets u job (Some d) admits (omega arith) (omega arith));
+      };
       state = e ∙ take_state u job (Some d) admits;
     }
 
@@ -33,7 +35,9 @@ returns-in-None c =
     let refuses : admitted u.state job.word ≡ None = sym c.in-None.ensures in
     record {
       answer = take_answer_lem u job None refuses;
-      same = record { serves = λ c. refl; stay = refl };
-      taken = take_meets u job None refuses (omega arith) (omega arith);
+      does = record {
+        same = record { serves = λ c. refl; stay = refl };
+        taken = take_meets u job None refuses (omega arith) (omega arith);
+      };
       state = take_state u job None refuses;
     }

@@ -2,9 +2,7 @@
 use Rattle.join.proofs.Calls.{step_joined}
 use Rattle.join.proofs.JoinUnit.step.Goals as goal
 
-pub returns : goal.returns
-returns g c =
-    let call =
+pub returns-clause-does : goal.returns-clause-does
+returns-clause-does g c =
     step_joined g.A.Unit.means g.B.Unit.means g.met.A.Unit.laws g.met.B.Unit.laws
-    c.args.self.now c.args.accepted c.step_in_turn.new.self c.step_in_turn.ensures in
-    record { same = call.same; stepped = call.stepped; sides = c.step_in_turn.ensures }
+    c.args.self.now c.args.accepted c.step_in_turn.new.self c.step_in_turn.ensures

@@ -9,5 +9,8 @@ returns g c =
     let u = c.args.self.now in
     let j = c.args.job in
     let did = c.take_left_first.ensures in
-    let call = take-joined l r u j c.take_left_first.new.self did.sides in
-    record { answer = answer_joined l r u j.word c.take_left_first.result did.answer; same = call.same; taken = call.taken; sides = did.sides }
+    record {
+      answer = answer_joined l r u j.word c.take_left_first.result did.answer;
+      does = take-joined l r u j c.take_left_first.new.self did.sides;
+      sides = did.sides;
+    }

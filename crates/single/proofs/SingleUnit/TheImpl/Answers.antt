@@ -11,6 +11,8 @@ take-tells c =
     let j = c.args.job in
     record {
       answer = c.ensures.answer;
-      same = record { serves = λ k. refl; stay = refl };
-      taken = takes u.job v.job j (word_class j.word) c.ensures.exact refl;
+      does = record {
+        same = record { serves = λ k. refl; stay = refl };
+        taken = takes u.job v.job j (word_class j.word) c.ensures.exact refl;
+      };
     }

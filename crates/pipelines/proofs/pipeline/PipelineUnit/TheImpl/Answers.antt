@@ -11,8 +11,10 @@ take-tells g c =
     let v = c.new.self.now in
     record {
       answer = c.ensures.answer;
-      same = same s.LATENCY s.CAPACITY s.serves jobs u v;
-      taken = takes s.LATENCY s.CAPACITY s.serves jobs u v c.args.job c.ensures.refused c.ensures.exact;
+      does = record {
+        same = same s.LATENCY s.CAPACITY s.serves jobs u v;
+        taken = takes s.LATENCY s.CAPACITY s.serves jobs u v c.args.job c.ensures.refused c.ensures.exact;
+      };
     }
 
 pub step-tells : goal.step-tells
