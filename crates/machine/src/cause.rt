@@ -11,20 +11,14 @@ pub enum Cause {
     AccessFault,
     IllegalInstruction,
     Breakpoint,
-    EnvironmentCall,
+    EnvironmentCall = 11,
 }
 
 impl Cause {
     pub fn number(self) -> u32
         ensures { result ≡ cause_number self }
     {
-        match self {
-            Cause::MisalignedTarget => 0,
-            Cause::AccessFault => 1,
-            Cause::IllegalInstruction => 2,
-            Cause::Breakpoint => 3,
-            Cause::EnvironmentCall => 11,
-        }
+        self as u32
     }
 
     fn name(self) -> &'static str

@@ -13,11 +13,7 @@ impl Retirement {
     pub fn number(self) -> u8
         ensures { result ≡ retirement_number self }
     {
-        match self {
-            Retirement::Plain => 0,
-            Retirement::Trapped => 1,
-            Retirement::Interrupted => 2,
-        }
+        self as u8
     }
 }
 
