@@ -1,6 +1,6 @@
 // What each format holds of an instruction, and where.
-ghost use Rattle.std.specs.Prelude.{◌≡◌, ◌+◌, ◌^◌, ◌<◌};
-ghost use Rattle.words.specs.Fields.{Whole};
+ghost use Rattle.std.specs.Prelude.{◌≡◌, ◌+◌, ◌^◌, ◌<◌, IsTrue};
+ghost use Rattle.words.specs.Table.{row_of};
 ghost use Rattle.words.specs.Formats.{signed, immediate_of, has_rd, has_rs1, has_rs2, taken, register_fits, registers_fit, immediate_fits, lay_of};
 
 use crate::fields::Fields;
@@ -22,7 +22,6 @@ fn sign_extended(n: u32, half: u32) -> i32
 }
 
 fn immediate_of(format: Format, fields: Fields) -> i32
-    requires { Whole fields }
     ensures { result ≡ immediate_of format fields }
 {
     match format {
@@ -73,7 +72,6 @@ fn has_rs2(format: Format) -> bool
 }
 
 pub(crate) fn take(operation: Operation, fields: Fields) -> Instruction
-    requires { Whole fields }
     ensures { result ≡ taken operation fields }
 {
     let format = table::row_of(operation).format;
@@ -116,6 +114,8 @@ pub(crate) fn immediate_fits(format: Format, immediate: i32) -> bool
 }
 
 pub(crate) fn lay(row: Row, instruction: Instruction) -> Fields
+    requires row { row ≡ row_of instruction.operation }
+    requires registers { IsTrue (registers_fit row.format instruction) }
     ensures { result ≡ lay_of row instruction }
 {
     let bits = instruction.immediate.cast_unsigned();
