@@ -67,7 +67,15 @@ written rd v next m =
 abbrev pub recorded : ℕ → ℕ → Retirement → ℕ → ℕ → Machine → Machine × Record
 recorded pc w o d v m = (m, record { pc = pc; word = w; outcome = o; destination = d; value = v; next = m.pc })
 
--- an instruction that did not trap is done: now the interrupt line is looked at
+-- an instruction that did not trap is done: now the interrupt line is looked at,
+abbrev pub retired : Bool → Machine → Retirement
+retired line m = cond (line && m.trap.mie) Interrupted Plain
+
+-- and an interrupt enters the handler
+abbrev pub after_line : Bool → Machine → Machine
+after_line line m = cond (line && m.trap.mie) (entered m.pc external_interrupt m) m
+
+-- of both with what was done at pc
 abbrev pub settled : Bool → ℕ → ℕ → ℕ → ℕ → Machine → Machine × Record
 settled line pc w d v m =
     cond (line && m.trap.mie)

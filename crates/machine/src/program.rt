@@ -49,5 +49,5 @@ fn copy_to_front(table: &mut [u32], words: &[u32])
     requires { length words.now ≤ length table.old }
     ensures { table.new ≡ words.now ++ drop (length words.now) table.old }
 {
-    table[0..words.len()].copy_from_slice(words);
+    table[..words.len()].copy_from_slice(words);
 }

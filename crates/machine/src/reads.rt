@@ -1,29 +1,20 @@
 // What can be read of the machine.
-ghost use Rattle.std.specs.Prelude.{◌≡◌, length, slice_index};
+ghost use Rattle.std.specs.Prelude.{◌≡◌, length};
 ghost use Rattle.machine.specs.Programs.{word_at};
 ghost use Rattle.machine.specs.States.{register_of, register_answer};
 
 use crate::state::{Machine, TrapState};
 use refusal::NoRegister;
 
-// No word has a register above 31: there is nothing to read there.
-fn value_at(registers: &[u32], register: u8) -> u32
-    ensures { result ≡ slice_index registers.now register }
-{
-    let index = usize::from(register);
-    if index < registers.len() {
-        registers[index]
-    } else {
-        0
-    }
-}
-
 impl Machine {
-    // What an instruction reads from a register.
+    // What an instruction reads from a register. No word has one above 31: there is nothing to read there.
     pub fn operand(&self, register: u8) -> u32
         ensures { result ≡ register_of self.now register }
     {
-        value_at(&self.registers, register)
+        self.registers
+            .get(usize::from(register))
+            .copied()
+            .unwrap_or(0)
     }
 
     // None outside the program.
@@ -36,11 +27,10 @@ impl Machine {
     pub fn register(&self, number: u8) -> Result<u32, NoRegister>
         ensures { result ≡ register_answer self.now number }
     {
-        if number < 32 {
-            Ok(self.registers[usize::from(number)])
-        } else {
-            Err(NoRegister { register: number })
-        }
+        self.registers
+            .get(usize::from(number))
+            .copied()
+            .ok_or(NoRegister { register: number })
     }
 
     // All 32, register 0 first.

@@ -2,7 +2,7 @@
 ghost use Rattle.std.specs.Prelude.{◌≡◌};
 ghost use Rattle.machine.specs.Records.{retirement_number};
 
-#[derive(Clone, Copy)]
+#[derive(Clone, Copy, Debug, PartialEq, Eq)]
 pub enum Retirement {
     Plain,
     Trapped,
@@ -13,15 +13,11 @@ impl Retirement {
     pub fn number(self) -> u8
         ensures { result ≡ retirement_number self }
     {
-        match self {
-            Retirement::Plain => 0,
-            Retirement::Trapped => 1,
-            Retirement::Interrupted => 2,
-        }
+        self as u8
     }
 }
 
-#[derive(Clone, Copy)]
+#[derive(Clone, Copy, Debug, PartialEq, Eq)]
 pub struct Record {
     pub pc: u32,
     // 0 where pc is outside the program

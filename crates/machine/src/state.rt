@@ -1,6 +1,7 @@
 // The state of the machine: made, loaded and written.
 ghost use Rattle.std.specs.Prelude.{◌≡◌};
 ghost use Rattle.machine.specs.States.{fresh, load_answer, load_state, write_register_answer, write_register_state, write_pc_answer, write_pc_state};
+ghost use Rattle.machine.specs.Step.{written};
 
 use crate::program::Program;
 use refusal::{LoadFault, NoRegister, SkewedAddress};
@@ -65,10 +66,17 @@ impl Machine {
         if number >= 32 {
             return Err(NoRegister { register: number });
         }
-        if number != 0 {
+        self.set_register(number, value);
+        Ok(())
+    }
+
+    // Register 0 takes no value, and no word has one above 31.
+    pub(crate) fn set_register(&mut self, number: u8, value: u32)
+        ensures { self.new ≡ written number value self.old.pc self.old }
+    {
+        if let 1..32 = number {
             self.registers[usize::from(number)] = value;
         }
-        Ok(())
     }
 
     pub fn write_pc(&mut self, address: u32) -> Result<(), SkewedAddress>

@@ -1,3 +1,2 @@
-mod Choosing
-mod Firsts
-mod FreePlaces
+mod Mapping
+mod Places

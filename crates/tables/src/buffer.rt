@@ -3,7 +3,6 @@ ghost use Rattle.std.specs.Prelude.{◌≡◌};
 ghost use Rattle.tables.specs.Buffers.{no_entries, entry_in, push_answer, push_state, popped, emptied, with_result, replaced};
 
 use crate::entry::Entry;
-use crate::slots;
 use machine::judgement::Judgement;
 use refusal::IssueFault;
 
@@ -34,20 +33,17 @@ impl Buffer {
             return Err(IssueFault::BufferFull);
         }
         let slot = self.next_slot();
-        slots::write(&mut self.entries, slot, entry);
+        self.entries[usize::from(slot)] = entry;
         self.count += 1;
         Ok(slot)
     }
 
-    // The entry in a slot is lent and changed in place, out of a slice, of which the proof knows the length.
     pub fn finish(&mut self, tag: u8, judgement: Judgement)
         ensures { self.new ≡ replaced tag (with_result judgement (entry_in self.old tag)) self.old }
     {
-        let entries = &mut self.entries[..];
-        let index = usize::from(tag);
-        if index < entries.len() {
-            let entry = &mut entries[index];
-            entry.finish(judgement);
+        let slot = usize::from(tag);
+        if slot < self.entries.len() {
+            self.entries[slot].result = Some(judgement);
         }
     }
 

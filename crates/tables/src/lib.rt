@@ -3,7 +3,6 @@
 //   entry     one instruction in the reorder buffer
 //   buffer    the reorder buffer: 16 entries, first in first out
 //   reads     what the buffer holds
-//   slots     total reads and writes of a table
 //   station   one instruction that waits for its operands, and what an operand is
 //   stations  the eight reservation stations
 //   tags      which entry will write a register
@@ -12,7 +11,6 @@
 pub mod buffer;
 pub mod entry;
 mod reads;
-mod slots;
 pub mod station;
 pub mod stations;
 pub mod tags;

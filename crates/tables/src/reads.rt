@@ -4,7 +4,6 @@ ghost use Rattle.tables.specs.Buffers.{entry_in, slot_at, full, oldest_entry, ne
 
 use crate::buffer::Buffer;
 use crate::entry::Entry;
-use crate::slots;
 
 impl Buffer {
     pub fn head(&self) -> u8
@@ -29,7 +28,7 @@ impl Buffer {
     pub(crate) fn slot_at(&self, older: u8) -> u8
         ensures { result ≡ slot_at self.now older }
     {
-        ((u16::from(self.head) + u16::from(older)) % 16) as u8
+        older.wrapping_add(self.head) % 16
     }
 
     pub fn next_slot(&self) -> u8
@@ -41,7 +40,10 @@ impl Buffer {
     pub fn entry(&self, tag: u8) -> Entry
         ensures { result ≡ entry_in self.now tag }
     {
-        slots::read(&self.entries, tag, Entry::BLANK)
+        self.entries
+            .get(usize::from(tag))
+            .copied()
+            .unwrap_or(Entry::BLANK)
     }
 
     pub fn oldest(&self) -> Option<Entry>

@@ -24,34 +24,33 @@ pub struct Station {
 }
 
 impl Operand {
-    fn fill(&mut self, tag: u8, value: u32)
-        ensures { self.new ≡ filled tag value self.old }
+    fn filled(self, tag: u8, value: u32) -> Operand
+        ensures { result ≡ filled tag value self }
     {
-        if let Operand::Awaits(awaited) = *self
-            && awaited == tag
-        {
-            *self = Operand::Value(value);
+        match self {
+            Operand::Awaits(awaited) if awaited == tag => Operand::Value(value),
+            _ => self,
         }
     }
 }
 
 impl Station {
     // The value under a tag has come.
-    pub(crate) fn wake(&mut self, tag: u8, value: u32)
-        ensures { self.new ≡ woken tag value self.old }
+    pub(crate) fn woken(self, tag: u8, value: u32) -> Station
+        ensures { result ≡ woken tag value self }
     {
-        self.a.fill(tag, value);
-        self.b.fill(tag, value);
+        Station {
+            a: self.a.filled(tag, value),
+            b: self.b.filled(tag, value),
+            ..self
+        }
     }
 
     // None while an operand is awaited.
     pub(crate) fn job(&self) -> Option<Job>
         ensures { result ≡ job_of self.now }
     {
-        let Operand::Value(a) = self.a else {
-            return None;
-        };
-        let Operand::Value(b) = self.b else {
+        let (Operand::Value(a), Operand::Value(b)) = (self.a, self.b) else {
             return None;
         };
         Some(Job {

@@ -2,8 +2,6 @@
 ghost use Rattle.std.specs.Prelude.{◌≡◌};
 ghost use Rattle.tables.specs.Tagging.{no_tags, tag_of, tagged, untagged};
 
-use crate::slots;
-
 #[derive(Clone, Copy)]
 pub struct Tags {
     tags: [Option<u8>; 32],
@@ -19,15 +17,15 @@ impl Tags {
     pub fn get(&self, register: u8) -> Option<u8>
         ensures { result ≡ tag_of self.now register }
     {
-        slots::read(&self.tags, register, None)
+        self.tags.get(usize::from(register)).copied().flatten()
     }
 
     // Register 0 is never written.
     pub fn set(&mut self, register: u8, tag: u8)
         ensures { self.new ≡ tagged register tag self.old }
     {
-        if register != 0 {
-            slots::write(&mut self.tags, register, Some(tag));
+        if let 1..32 = register {
+            self.tags[usize::from(register)] = Some(tag);
         }
     }
 
@@ -35,16 +33,14 @@ impl Tags {
     pub fn release(&mut self, register: u8, tag: u8)
         ensures { self.new ≡ untagged register tag self.old }
     {
-        if let Some(youngest) = self.get(register)
-            && youngest == tag
-        {
-            slots::write(&mut self.tags, register, None);
+        if self.get(register) == Some(tag) {
+            self.tags[usize::from(register)] = None;
         }
     }
 
     pub fn clear(&mut self)
         ensures { self.new ≡ no_tags }
     {
-        self.tags = [None; 32];
+        *self = Tags::new();
     }
 }

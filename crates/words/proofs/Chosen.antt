@@ -3,13 +3,12 @@
 use Rattle.std.proofs.Common.{◌≡◌, ℕ, ◌^◌, Bool, true, ◌&&◌, ltb, List, [], ◌∷◌, Some, refl, arith}
 use Rattle.std.proofs.lemmas.Bool.Decides.{nat_tests}
 use Rattle.isa.specs.declared.instruction.Instruction.{Instruction}
-use Rattle.words.specs.declared.fields.Fields.{Fields}
 use Rattle.words.specs.declared.table.Row.{Row}
 use Rattle.words.specs.declared.table.Format.{Format}
 use Rattle.words.specs.declared.table.Format.TheVariants.{R, I, Shift, B, U, J, Fixed}
 use Rattle.isa.specs.declared.operation.Operation.{Operation}
 use Rattle.isa.specs.declared.operation.Operation.TheVariants.{Lui, Auipc, Jal, Jalr, Beq, Bne, Blt, Bge, Bltu, Bgeu, Addi, Slti, Sltiu, Xori, Ori, Andi, Slli, Srli, Srai, Add, Sub, Sll, Slt, Sltu, Xor, Srl, Sra, Or, And, Mul, Div, Divu, Rem, Remu, Ecall, Ebreak, Mret}
-use Rattle.words.specs.Fields.{Whole}
+use Rattle.words.specs.Fields.{Fields, Whole}
 use Rattle.words.specs.Table.{row_of, operations, fits_row, first_of, chosen}
 use Rattle.words.specs.Formats.{laid, registers_fit}
 

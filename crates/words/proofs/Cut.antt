@@ -2,8 +2,7 @@
 -- Assumes nothing.
 use Rattle.std.proofs.Common.{◌≡◌, ℕ, ◌+◌, ◌*◌, ◌/◌, ◌%◌, ◌^◌, ◌<◌, arith}
 use Rattle.std.proofs.lemmas.Nat.{shr-shr}
-use Rattle.words.specs.declared.fields.Fields.{Fields}
-use Rattle.words.specs.Fields.{cut, joined, Whole}
+use Rattle.words.specs.Fields.{Fields, cut, joined, Whole}
 
 pub joined-cut : (w : ℕ) → joined (cut w) ≡ w
 joined-cut w = omega (arith, shr-shr w 7 5, shr-shr w 12 3, shr-shr w 15 5, shr-shr w 20 5)

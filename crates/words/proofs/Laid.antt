@@ -5,12 +5,11 @@ use Rattle.std.proofs.lemmas.Nat.{shr_high, mod_low}
 use Rattle.std.proofs.lemmas.Int.{ints}
 use Rattle.std.proofs.lemmas.Bool.Decides.{nat_tests}
 use Rattle.std.proofs.lemmas.Bool.{and_from, eq-eqb}
-use Rattle.words.specs.declared.fields.Fields.{Fields}
 use Rattle.isa.specs.declared.operation.Operation.{Operation}
 use Rattle.words.specs.declared.table.Row.{Row}
 use Rattle.words.specs.declared.table.Format.{Format}
 use Rattle.words.specs.declared.table.Format.TheVariants.{R, I, Shift, B, U, J, Fixed}
-use Rattle.words.specs.Fields.{Whole}
+use Rattle.words.specs.Fields.{Fields, Whole}
 use Rattle.words.specs.Table.{fixed}
 use Rattle.words.specs.Formats.{signed, immediate_of, held, laid, within, registers_fit, immediate_fits}
 

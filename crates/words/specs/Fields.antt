@@ -1,7 +1,14 @@
 -- A word of 32 bits as six fields, from the low end: opcode 7 bits, rd 5, funct3 3, rs1 5, rs2 5, funct7 7.
 -- Assumes nothing.
 use Rattle.std.specs.Prelude.{ℕ, ◌+◌, ◌*◌, ◌/◌, ◌%◌, ◌^◌, ◌<◌}
-use Rattle.words.specs.declared.fields.Fields.{Fields}
+
+pub record Fields : Type 0 where
+  pub opcode : ℕ
+  pub rd : ℕ
+  pub funct3 : ℕ
+  pub rs1 : ℕ
+  pub rs2 : ℕ
+  pub funct7 : ℕ
 
 abbrev pub cut : ℕ → Fields
 cut w =

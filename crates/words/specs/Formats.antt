@@ -4,7 +4,7 @@ use Rattle.std.specs.Prelude.{ℕ, ◌+◌, ◌*◌, ◌/◌, ◌%◌, ◌^◌, 
 use Rattle.std.proofs.Common.{of_z}
 use Rattle.std.specs.Int.{w32}
 use Rattle.isa.specs.declared.instruction.Instruction.{Instruction}
-use Rattle.words.specs.declared.fields.Fields.{Fields}
+use Rattle.words.specs.Fields.{Fields}
 use Rattle.isa.specs.declared.operation.Operation.{Operation}
 use Rattle.words.specs.declared.table.Format.{Format}
 use Rattle.words.specs.declared.table.Format.TheVariants.{R, I, Shift, B, U, J, Fixed}

@@ -1,6 +1,8 @@
 // A word as the six fields that every format is cut from.
 ghost use Rattle.std.specs.Prelude.{◌≡◌};
-ghost use Rattle.words.specs.Fields.{cut, joined, Whole};
+ghost use Rattle.words.specs.Fields.{cut, joined};
+
+use std::marker::Model;
 
 #[derive(Clone, Copy)]
 pub struct Fields {
@@ -10,6 +12,19 @@ pub struct Fields {
     pub rs1: u32,
     pub rs2: u32,
     pub funct7: u32,
+}
+
+impl Model for Fields {
+    ghost use Rattle.words.specs.Fields.{Fields as Parts, Whole};
+
+    ghost Value = { Parts };
+
+    ghost view = { λ f. record { opcode = f.opcode; rd = f.rd; funct3 = f.funct3; rs1 = f.rs1; rs2 = f.rs2; funct7 = f.funct7 } };
+
+    ghost inverse = { λ f. record { opcode = f.opcode; rd = f.rd; funct3 = f.funct3; rs1 = f.rs1; rs2 = f.rs2; funct7 = f.funct7 } };
+
+    // each field is within its bits
+    ghost invariant = { λ f. Whole (record { opcode = f.opcode; rd = f.rd; funct3 = f.funct3; rs1 = f.rs1; rs2 = f.rs2; funct7 = f.funct7 }) };
 }
 
 pub(crate) fn split(word: u32) -> Fields
@@ -26,7 +41,6 @@ pub(crate) fn split(word: u32) -> Fields
 }
 
 pub(crate) fn join(fields: Fields) -> u32
-    requires { Whole fields }
     ensures { result ≡ joined fields }
 {
     fields.funct7 << 25

@@ -1,6 +1,6 @@
 // What each format holds of an instruction, and where.
-ghost use Rattle.std.specs.Prelude.{◌≡◌, ◌+◌, ◌^◌, ◌<◌};
-ghost use Rattle.words.specs.Fields.{Whole};
+ghost use Rattle.std.specs.Prelude.{◌≡◌, ◌+◌, ◌^◌, ◌<◌, IsTrue};
+ghost use Rattle.words.specs.Table.{row_of};
 ghost use Rattle.words.specs.Formats.{signed, immediate_of, has_rd, has_rs1, has_rs2, taken, register_fits, registers_fit, immediate_fits, lay_of};
 
 use crate::fields::Fields;
@@ -22,7 +22,6 @@ fn sign_extended(n: u32, half: u32) -> i32
 }
 
 fn immediate_of(format: Format, fields: Fields) -> i32
-    requires { Whole fields }
     ensures { result ≡ immediate_of format fields }
 {
     match format {
@@ -73,7 +72,6 @@ fn has_rs2(format: Format) -> bool
 }
 
 pub(crate) fn take(operation: Operation, fields: Fields) -> Instruction
-    requires { Whole fields }
     ensures { result ≡ taken operation fields }
 {
     let format = table::row_of(operation).format;
@@ -105,82 +103,65 @@ pub(crate) fn immediate_fits(format: Format, immediate: i32) -> bool
 {
     match format {
         Format::R | Format::Fixed => immediate == 0,
-        Format::I => -2048 <= immediate && immediate < 2048,
-        Format::Shift => 0 <= immediate && immediate < 32,
-        Format::B => -4096 <= immediate && immediate < 4096 && immediate.cast_unsigned() % 2 == 0,
-        Format::U => 0 <= immediate && immediate < 0x10_0000,
+        Format::I => (-2048..2048).contains(&immediate),
+        Format::Shift => (0..32).contains(&immediate),
+        Format::B => (-4096..4096).contains(&immediate) && immediate.cast_unsigned() % 2 == 0,
+        Format::U => (0..0x10_0000).contains(&immediate),
         Format::J => {
-            -0x10_0000 <= immediate && immediate < 0x10_0000 && immediate.cast_unsigned() % 2 == 0
+            (-0x10_0000..0x10_0000).contains(&immediate) && immediate.cast_unsigned() % 2 == 0
         }
     }
 }
 
 pub(crate) fn lay(row: Row, instruction: Instruction) -> Fields
+    requires row { row ≡ row_of instruction.operation }
+    requires registers { IsTrue (registers_fit row.format instruction) }
     ensures { result ≡ lay_of row instruction }
 {
     let bits = instruction.immediate.cast_unsigned();
-    let opcode = row.opcode;
-    let rd = u32::from(instruction.rd);
-    let funct3 = row.funct3;
-    let rs1 = u32::from(instruction.rs1);
-    let rs2 = u32::from(instruction.rs2);
-    let funct7 = row.funct7;
+    let fields = Fields {
+        opcode: row.opcode,
+        rd: u32::from(instruction.rd),
+        funct3: row.funct3,
+        rs1: u32::from(instruction.rs1),
+        rs2: u32::from(instruction.rs2),
+        funct7: row.funct7,
+    };
     match row.format {
-        Format::R => Fields {
-            opcode,
-            rd,
-            funct3,
-            rs1,
-            rs2,
-            funct7,
-        },
+        Format::R => fields,
         Format::I => Fields {
-            opcode,
-            rd,
-            funct3,
-            rs1,
             rs2: bits % 32,
             funct7: (bits >> 5) % 128,
+            ..fields
         },
         Format::Shift => Fields {
-            opcode,
-            rd,
-            funct3,
-            rs1,
             rs2: bits % 32,
-            funct7,
+            ..fields
         },
         Format::B => Fields {
-            opcode,
             rd: (bits >> 1) % 16 * 2 + (bits >> 11) % 2,
-            funct3,
-            rs1,
-            rs2,
             funct7: (bits >> 12) % 2 * 64 + (bits >> 5) % 64,
+            ..fields
         },
         Format::U => Fields {
-            opcode,
-            rd,
             funct3: bits % 8,
             rs1: (bits >> 3) % 32,
             rs2: (bits >> 8) % 32,
             funct7: (bits >> 13) % 128,
+            ..fields
         },
         Format::J => Fields {
-            opcode,
-            rd,
             funct3: (bits >> 12) % 8,
             rs1: (bits >> 15) % 32,
             rs2: (bits >> 1) % 16 * 2 + (bits >> 11) % 2,
             funct7: (bits >> 20) % 2 * 64 + (bits >> 5) % 64,
+            ..fields
         },
         Format::Fixed => Fields {
-            opcode,
             rd: 0,
-            funct3,
             rs1: 0,
             rs2: row.rs2,
-            funct7,
+            ..fields
         },
     }
 }

@@ -1,23 +1,13 @@
 -- What the tests find is what `write_word` asks, and what is written reads back.
-use Rattle.std.proofs.Common.{◌≡◌, true, Ok, sym, ap, ◌∙◌, subst, w32, SFits, of_z, rules}
+use Rattle.std.proofs.Common.{◌≡◌, true, Ok, sym, ap, ◌∙◌, w32, SFits, rules}
 use Rattle.std.proofs.lemmas.Int.{to_z-of_z}
 use Rattle.words.specs.declared.table.Row.{Row}
-use Rattle.words.specs.Fields.{joined, Whole}
+use Rattle.words.specs.Fields.{joined}
 use Rattle.words.specs.Table.{row_of}
 use Rattle.words.specs.Formats.{registers_fit, immediate_fits, lay_of}
 use Rattle.words.specs.Words.{write_word}
-use Rattle.words.proofs.Chosen.{lay_whole}
 use Rattle.words.proofs.Trips.{write_back, one_instruction}
 use Rattle.words.proofs.write.Goals as goal
-
-pub join-requires : goal.join-requires
-join-requires c =
-    let i = c.args.instruction in
-    let h = c.row_of-row.ensures in
-    let r : registers_fit (row_of i.operation).format i ≡ true =
-    ap (λ (x : Row). registers_fit x.format i) (sym h) ∙ sym c.registers_fit.ensures ∙ c.if-not-registers_fit.false in
-    let e : c.lay.result ≡ lay_of (row_of i.operation) i = c.lay.ensures ∙ ap (λ (x : Row). lay_of x i) h in
-    subst Whole (sym e) (lay_whole i.operation i (of_z w32 i.immediate) r)
 
 pub returns : goal.returns
 returns c =
