@@ -1,17 +1,33 @@
 -- Digits of a base, by std's `digit_value`: 0 to 9, then letters of either case from 10 on, and 36 for any other byte.
 -- Assumes nothing.
-use Rattle.std.specs.Prelude.{ℕ, ◌^◌, Bool, cond, ◌&&◌, List, [], ◌∷◌, drop, Some, None, Option, ◌==◌, nat_lt, slice_index}
+use Rattle.std.specs.Prelude.{ℕ, ◌^◌, min, Bool, cond, ◌&&◌, List, [], ◌∷◌, drop, Some, None, Err, Option, Result, ◌==◌, nat_lt, slice_index}
+use Rattle.std.specs.List.{find}
+use Rattle.std.specs.Option.{is_none, ok_or}
 use Rattle.std.specs.Str.Parse.{digits_value}
 use Rattle.std.specs.Char.{digit_value}
+use Rattle.console.specs.declared.digits.DigitsFault.{DigitsFault}
+use Rattle.console.specs.declared.digits.DigitsFault.TheVariants.{NoDigits, NotADigit, TooLarge}
+
+-- the digit that a byte writes, if it is one of the base; no base has more than 36
+abbrev pub digit_of : ℕ → ℕ → Option ℕ
+digit_of radix c = cond (nat_lt (digit_value c) (min radix 36)) (Some (digit_value c)) None
 
 -- the first byte that is no digit of the base
 abbrev pub first_stranger : ℕ → List ℕ → Option ℕ
-first_stranger radix [] = None
-first_stranger radix (c ∷ cs) = cond (nat_lt (digit_value c) radix) (first_stranger radix cs) (Some c)
+first_stranger radix ds = find (λ c. is_none (digit_of radix c)) ds
 
 -- the number that the digits write, if 64 bits hold it
 abbrev pub value64 : ℕ → List ℕ → Option ℕ
 value64 radix ds = cond (nat_lt (digits_value radix ds) (2 ^ 64)) (Some (digits_value radix ds)) None
+
+abbrev pub digits_or_fault : ℕ → List ℕ → Option ℕ → Result ℕ DigitsFault
+digits_or_fault radix ds (Some c) = Err (NotADigit c)
+digits_or_fault radix ds None = ok_or (value64 radix ds) TooLarge
+
+-- one digit or more, and nothing else
+abbrev pub parsed : ℕ → List ℕ → Result ℕ DigitsFault
+parsed radix [] = Err NoDigits
+parsed radix (d ∷ ds) = digits_or_fault radix (d ∷ ds) (first_stranger radix (d ∷ ds))
 
 -- `0x` in front of a text
 abbrev pub hex_mark : List ℕ → Bool

@@ -4,7 +4,9 @@ use Rattle.std.specs.Prelude.{ℕ, Bool, cond, ◌||◌, List, [], ◌∷◌, le
 use Rattle.std.specs.Option.{unwrap_or}
 use Rattle.std.specs.Str.Parse.{digits_value}
 use Rattle.console.specs.declared.lines.WordFault.{WordFault}
-use Rattle.console.specs.declared.lines.WordFault.TheVariants.{NotHex, TooWide, NoDigits}
+use Rattle.console.specs.declared.lines.WordFault.TheVariants.{NotHex, TooWide, NoDigits as NoDigitsOfAWord}
+use Rattle.console.specs.declared.digits.DigitsFault.{DigitsFault}
+use Rattle.console.specs.declared.digits.DigitsFault.TheVariants.{NoDigits, NotADigit, TooLarge}
 use Rattle.console.specs.Digits.{first_stranger, after_mark}
 
 -- space, tab, CR
@@ -37,13 +39,18 @@ trimmed_back (c ∷ cs) = before_kept c (trimmed_back cs)
 abbrev pub line_text : List ℕ → List ℕ
 line_text bs = trimmed_back (trimmed_front (uncommented bs))
 
+abbrev pub word_fault : DigitsFault → WordFault
+word_fault NoDigits = NoDigitsOfAWord
+word_fault (NotADigit c) = NotHex c
+word_fault TooLarge = TooWide
+
 abbrev pub hex_or_fault : List ℕ → Option ℕ → Result ℕ WordFault
 hex_or_fault ds (Some c) = Err (NotHex c)
 hex_or_fault ds None = cond (nat_le (length ds) 8) (Ok (digits_value 16 ds)) (Err TooWide)
 
 -- one to eight hex digits
 abbrev pub hex_word : List ℕ → Result ℕ WordFault
-hex_word [] = Err NoDigits
+hex_word [] = Err NoDigitsOfAWord
 hex_word (d ∷ ds) = hex_or_fault (d ∷ ds) (first_stranger 16 (d ∷ ds))
 
 abbrev pub some_word : Result ℕ WordFault → Result (Option ℕ) WordFault

@@ -1,22 +1,24 @@
 -- A number argument: decimal digits, or hex digits after `0x`.
 -- Assumes nothing.
-use Rattle.std.specs.Prelude.{ℕ, List, [], ◌∷◌, Some, None, Ok, Err, Option, Result}
+use Rattle.std.specs.Prelude.{ℕ, List, Some, None, Ok, Err, Option, Result}
 use Rattle.console.specs.declared.numbers.NumberFault.{NumberFault}
-use Rattle.console.specs.declared.numbers.NumberFault.TheVariants.{NotANumber, TooLarge}
-use Rattle.console.specs.Digits.{first_stranger, value64, after_mark}
+use Rattle.console.specs.declared.numbers.NumberFault.TheVariants.{NotANumber, TooLarge as TooLargeANumber}
+use Rattle.console.specs.declared.digits.DigitsFault.{DigitsFault}
+use Rattle.console.specs.declared.digits.DigitsFault.TheVariants.{NoDigits, NotADigit, TooLarge}
+use Rattle.console.specs.Digits.{parsed, after_mark}
 
-abbrev pub or_too_large : Option ℕ → Result ℕ NumberFault
-or_too_large (Some n) = Ok n
-or_too_large None = Err TooLarge
+abbrev pub number_fault : DigitsFault → NumberFault
+number_fault NoDigits = NotANumber
+number_fault (NotADigit c) = NotANumber
+number_fault TooLarge = TooLargeANumber
 
-abbrev pub digits_or_fault : ℕ → List ℕ → Option ℕ → Result ℕ NumberFault
-digits_or_fault radix ds (Some c) = Err NotANumber
-digits_or_fault radix ds None = or_too_large (value64 radix ds)
+abbrev pub number_or_fault : Result ℕ DigitsFault → Result ℕ NumberFault
+number_or_fault (Ok n) = Ok n
+number_or_fault (Err e) = Err (number_fault e)
 
 -- one digit or more, and nothing else
 abbrev pub digits_number : ℕ → List ℕ → Result ℕ NumberFault
-digits_number radix [] = Err NotANumber
-digits_number radix (d ∷ ds) = digits_or_fault radix (d ∷ ds) (first_stranger radix (d ∷ ds))
+digits_number radix ds = number_or_fault (parsed radix ds)
 
 abbrev pub marked_number : List ℕ → Option (List ℕ) → Result ℕ NumberFault
 marked_number bs (Some ds) = digits_number 16 ds

@@ -1,8 +1,9 @@
 // A line of program text: a word in hex digits, or nothing, with a comment from `#` on.
 ghost use Rattle.std.specs.Prelude.{◌≡◌};
-ghost use Rattle.console.specs.Lines.{blank, before, trimmed_front, trimmed_back, line_text, hex_word, line_word};
+ghost use Rattle.console.specs.Lines.{blank, before, word_fault, trimmed_front, trimmed_back, line_text, hex_word, line_word};
 
 use crate::digits;
+use crate::digits::DigitsFault;
 
 #[derive(Clone, Copy)]
 pub enum WordFault {
@@ -11,63 +12,68 @@ pub enum WordFault {
     NoDigits,
 }
 
+impl From<DigitsFault> for WordFault {
+    ghost from_gives = { λ fault r. r ≡ word_fault fault };
+
+    fn from(fault: DigitsFault) -> WordFault {
+        match fault {
+            DigitsFault::NoDigits => WordFault::NoDigits,
+            DigitsFault::NotADigit(byte) => WordFault::NotHex(byte),
+            DigitsFault::TooLarge => WordFault::TooWide,
+        }
+    }
+}
+
 fn is_blank(byte: u8) -> bool
     ensures { result ≡ blank byte }
 {
-    byte == b' ' || byte == b'\t' || byte == b'\r'
+    matches!(byte, b' ' | b'\t' | b'\r')
 }
 
 // What stands before the first such byte, or all of it where there is none.
 pub(crate) fn text_before(byte: u8, text: &[u8]) -> &[u8]
     ensures { result.now ≡ before byte text.now }
 {
-    for (i, found) in text.iter().enumerate() {
-        if *found == byte {
-            return &text[0..i];
-        }
+    match text.iter().position(|found| *found == byte) {
+        Some(end) => &text[..end],
+        None => text,
     }
-    text
 }
 
 fn trim_front(text: &[u8]) -> &[u8]
     ensures { result.now ≡ trimmed_front text.now }
 {
-    let mut start = 0;
-    while start < text.len() && is_blank(text[start]) {
-        start += 1;
+    let mut left = text;
+    while let [first, rest @ ..] = left {
+        if !is_blank(*first) {
+            break;
+        }
+        left = rest;
     }
-    &text[start..]
+    left
 }
 
 fn trim_back(text: &[u8]) -> &[u8]
     ensures { result.now ≡ trimmed_back text.now }
 {
-    let mut end = text.len();
-    while end > 0 && is_blank(text[end - 1]) {
-        end -= 1;
+    let mut left = text;
+    while let [rest @ .., last] = left {
+        if !is_blank(*last) {
+            break;
+        }
+        left = rest;
     }
-    &text[0..end]
+    left
 }
 
 fn parse_hex_word(text: &[u8]) -> Result<u32, WordFault>
     ensures { result ≡ hex_word text.now }
 {
-    if text.is_empty() {
-        return Err(WordFault::NoDigits);
-    }
-    if let Some(byte) = digits::first_stranger(16, text) {
-        return Err(WordFault::NotHex(byte));
-    }
+    let word = digits::parse(16, text)?;
     if text.len() > 8 {
         return Err(WordFault::TooWide);
     }
-    match digits::value(16, text) {
-        Some(word) => match u32::try_from(word) {
-            Ok(word) => Ok(word),
-            Err(_) => Err(WordFault::TooWide),
-        },
-        None => Err(WordFault::TooWide),
-    }
+    Ok(word as u32)
 }
 
 // What a line says: without its comment, and the blanks around it.
@@ -85,8 +91,5 @@ pub fn parse_line(line: &[u8]) -> Result<Option<u32>, WordFault>
     if text.is_empty() {
         return Ok(None);
     }
-    match parse_hex_word(digits::after_hex_mark(text).unwrap_or(text)) {
-        Ok(word) => Ok(Some(word)),
-        Err(fault) => Err(fault),
-    }
+    parse_hex_word(digits::after_hex_mark(text).unwrap_or(text)).map(Some)
 }

@@ -1,3 +1,3 @@
 mod Stands
-mod Names
 mod TextByText
+mod MapErr

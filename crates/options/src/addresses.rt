@@ -8,9 +8,5 @@ pub fn parse_address(text: &[u8]) -> Result<u32, NumberFault>
     ensures { result ≡ address_of text.now }
 {
     let number = parse_number(text)?;
-    if number <= 0xffff_ffff {
-        Ok(number as u32)
-    } else {
-        Err(NumberFault::TooLarge)
-    }
+    u32::try_from(number).map_err(|_| NumberFault::TooLarge)
 }

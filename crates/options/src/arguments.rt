@@ -1,12 +1,14 @@
 // The options of a run, from the argument list.
 ghost use Rattle.std.specs.Prelude.{◌≡◌, ◌⊎◌, map, Ok, Err, string_bytes, MatchResult};
-ghost use Rattle.options.specs.declared.arguments.OptionFault.TheVariants.{NoMemory, BadNumber};
+ghost use Rattle.std.specs.Option.{ok_or};
+ghost use Rattle.options.specs.declared.arguments.OptionFault.TheVariants.{Unknown, NoMemory, BadNumber};
 ghost use Rattle.options.specs.Settings.{settings_of, defaults, argument_named, begun, with_event, given, taken, settings_in};
 
 use crate::addresses::parse_address;
 use crate::schedule::LineEvent;
 use console::numbers::{NumberFault, parse_number};
-use std::alloc::Global;
+use std::alloc::{AllocFailed, Global};
+use std::str::FromStr;
 
 #[derive(Clone, Copy)]
 pub enum Argument {
@@ -57,21 +59,23 @@ pub struct Options {
     pub report: Report,
 }
 
-impl Argument {
-    fn named(text: &str) -> Option<Argument>
-        ensures { result ≡ argument_named text.now }
-    {
+impl FromStr for Argument {
+    type Err = OptionFault;
+
+    ghost from_str_gives = { λ text r. r ≡ ok_or (argument_named text) Unknown };
+
+    fn from_str(text: &str) -> Result<Argument, OptionFault> {
         match text {
-            "--pc" => Some(Argument::Pc),
-            "--vector" => Some(Argument::Vector),
-            "--retire" => Some(Argument::Retire),
-            "--budget" => Some(Argument::Budget),
-            "--raise" => Some(Argument::Raise),
-            "--drop" => Some(Argument::Drop),
-            "--sequential" => Some(Argument::Sequential),
-            "--records" => Some(Argument::Records),
-            "--summary" => Some(Argument::Summary),
-            _ => None,
+            "--pc" => Ok(Argument::Pc),
+            "--vector" => Ok(Argument::Vector),
+            "--retire" => Ok(Argument::Retire),
+            "--budget" => Ok(Argument::Budget),
+            "--raise" => Ok(Argument::Raise),
+            "--drop" => Ok(Argument::Drop),
+            "--sequential" => Ok(Argument::Sequential),
+            "--records" => Ok(Argument::Records),
+            "--summary" => Ok(Argument::Summary),
+            _ => Err(OptionFault::Unknown),
         }
     }
 }
@@ -115,10 +119,8 @@ impl Options {
     fn push_event(&mut self, up: bool, after: u64) -> Result<(), OptionFault>
         ensures { MatchResult result (λ _. settings_of self.new ≡ with_event up after (settings_of self.old)) (λ e. e ≡ NoMemory) }
     {
-        match self.events.push(LineEvent { after, up }) {
-            Ok(()) => Ok(()),
-            Err(_) => Err(OptionFault::NoMemory),
-        }
+        self.events.push(LineEvent { after, up })?;
+        Ok(())
     }
 
     // The text after an argument that takes a number.
@@ -150,11 +152,16 @@ impl Options {
                 self.set(argument, text.as_bytes())?;
                 Ok(None)
             }
-            None => match Argument::named(text) {
-                Some(argument) => Ok(self.begin(argument)),
-                None => Err(OptionFault::Unknown),
-            },
+            None => Ok(self.begin(text.parse()?)),
         }
+    }
+}
+
+impl<T: Drop> From<AllocFailed<T>> for OptionFault {
+    ghost from_gives = { λ _ r. r ≡ NoMemory };
+
+    fn from(_refused: AllocFailed<T>) -> OptionFault {
+        OptionFault::NoMemory
     }
 }
 
@@ -172,13 +179,10 @@ pub fn parse_options(heap: Global, texts: &[String]) -> Result<Options, BadArgum
     let mut options = Options::new(heap);
     let mut waiting = None;
     for (i, text) in texts.iter().enumerate() {
-        match options.take(waiting, text.as_str()) {
-            Ok(next) => waiting = next,
-            Err(fault) => return Err(BadArgument {
-                place: i + 1,
-                fault,
-            }),
-        }
+        let place = i + 1;
+        waiting = options
+            .take(waiting, text.as_str())
+            .map_err(|fault| BadArgument { place, fault })?;
     }
     match waiting {
         None => Ok(options),

@@ -1,39 +1,30 @@
--- The first field of a text, byte by byte.
+-- A text's fields, and its bytes one by one.
 -- Assumes nothing.
-use Rattle.std.proofs.Common.{◌≡◌, ℕ, ◌+◌, ◌<◌, ◌≤◌, true, false, eqb, List, [], ◌∷◌, ◌++◌, length, get_or, take, drop, Result, sym, refl, ap, ◌∙◌, append_assoc, append-nil}
-use Rattle.std.proofs.lemmas.List.{at_drop_more, at_drop_all, take_more, drop_more, drop_all}
-use Rattle.std.proofs.lemmas.Bool.{cond-true, cond-false, eqb-false}
+use Rattle.std.proofs.Common.{◌≡◌, ℕ, ◌+◌, Bool, false, Option, eqb, List, [], ◌∷◌, length, get_or, drop, Result, refl, ap, ◌∙◌, arith}
+use Rattle.std.proofs.lemmas.Bool.{eqb-false}
+use Rattle.std.proofs.lemmas.List.{drop_more, drop_all}
+use Rattle.std.proofs.lemmas.List.Sums.{prefix_len-le-length}
+use Rattle.std.proofs.lemmas.Grind.{common_steps}
+use Rattle.std.specs.List.{position, position_or_len}
+use Rattle.std.specs.Option.{unwrap_or}
 use Rattle.past.specs.declared.calls.Call.{Call}
 use Rattle.past.specs.declared.calls.CallFault.{CallFault}
-use Rattle.past.specs.Calls.{gap, first_field, from_gap, after_field, call_named, some_call, text_call}
+use Rattle.past.specs.Calls.{first_field, after_field, call_named, some_call, text_call}
 
-pub field_here : (xs : List ℕ) (i : ℕ) → i < length xs → gap (get_or xs i 0) ≡ true → take i xs ++ first_field (drop i xs) ≡ take i xs
-field_here xs i h e =
-    ap (λ l. take i xs ++ l) (at_drop_more first_field xs i 0 h ∙ cond-true (gap (get_or xs i 0)) [] (get_or xs i 0 ∷ first_field (drop (i + 1) xs)) e)
-    ∙ append-nil (take i xs)
+-- from place i on, n has the bytes of t
+abbrev pub HasFrom : List ℕ → ℕ → List ℕ → Type 0
+HasFrom n i [] = Unit {0}
+HasFrom n i (b ∷ t) = (get_or n i 0 ≡ b) × HasFrom n (i + 1) t
 
-pub field_past : (xs : List ℕ) (i : ℕ) → i < length xs → gap (get_or xs i 0) ≡ false → take (i + 1) xs ++ first_field (drop (i + 1) xs) ≡ take i xs ++ first_field (drop i xs)
-field_past xs i h e =
-    ap (λ l. l ++ first_field (drop (i + 1) xs)) (take_more xs i 0 h)
-    ∙ append_assoc (take i xs) (get_or xs i 0 ∷ []) (first_field (drop (i + 1) xs))
-    ∙ sym (ap (λ l. take i xs ++ l) (at_drop_more first_field xs i 0 h ∙ cond-false (gap (get_or xs i 0)) [] (get_or xs i 0 ∷ first_field (drop (i + 1) xs)) e))
+spelled_from : (n : List ℕ) (i : ℕ) (t : List ℕ) → length n ≡ i + length t → HasFrom n i t → drop i n ≡ t
+spelled_from n i [] h e = drop_all i n (omega arith)
+spelled_from n i (b ∷ t) h e = drop_more n i 0 (omega arith) ∙ ap (λ x. x ∷ drop (i + 1) n) e.0 ∙ ap (λ l. b ∷ l) (spelled_from n (i + 1) t (omega arith) e.1)
 
-pub field_all : (xs : List ℕ) (i : ℕ) → length xs ≤ i → take i xs ++ first_field (drop i xs) ≡ take i xs
-field_all xs i h = ap (λ l. take i xs ++ l) (at_drop_all first_field xs i h) ∙ append-nil (take i xs)
+pub spelled : (n t : List ℕ) → length n ≡ length t → HasFrom n 0 t → n ≡ t
+spelled n t h e = spelled_from n 0 t (omega arith) e
 
-pub gap_here : (xs : List ℕ) (i : ℕ) → i < length xs → gap (get_or xs i 0) ≡ true → from_gap (drop i xs) ≡ drop i xs
-gap_here xs i h e =
-    at_drop_more from_gap xs i 0 h
-    ∙ cond-true (gap (get_or xs i 0)) (get_or xs i 0 ∷ drop (i + 1) xs) (from_gap (drop (i + 1) xs)) e
-    ∙ sym (drop_more xs i 0 h)
-
-pub gap_past : (xs : List ℕ) (i : ℕ) → i < length xs → gap (get_or xs i 0) ≡ false → from_gap (drop (i + 1) xs) ≡ from_gap (drop i xs)
-gap_past xs i h e =
-    sym (at_drop_more from_gap xs i 0 h
-    ∙ cond-false (gap (get_or xs i 0)) (get_or xs i 0 ∷ drop (i + 1) xs) (from_gap (drop (i + 1) xs)) e)
-
-pub gap_all : (xs : List ℕ) (i : ℕ) → length xs ≤ i → from_gap (drop i xs) ≡ drop i xs
-gap_all xs i h = at_drop_all from_gap xs i h ∙ sym (drop_all i xs h)
+pub index_or_length : (p : ℕ → Bool) (xs : List ℕ) (r : Option ℕ) → r ≡ position p xs → unwrap_or r (length xs) ≡ position_or_len p xs
+index_or_length p xs r e = grind (arith, common_steps, prefix_len-le-length)
 
 some_text : (bs : List ℕ) → eqb (length bs) 0 ≡ false → some_call (call_named (first_field bs) (after_field bs)) ≡ text_call bs
 some_text [] e = absurd (eqb-false 0 0 e refl)

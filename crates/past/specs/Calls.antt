@@ -1,6 +1,8 @@
 -- A line of a past: a call by its name, with two numbers after `run`. Before the first call, a word.
 -- Assumes nothing.
-use Rattle.std.specs.Prelude.{ℕ, Bool, cond, ◌||◌, List, [], ◌∷◌, Some, None, Ok, Err, codes, Option, Result, ◌==◌}
+use Rattle.std.specs.Prelude.{ℕ, Bool, cond, ◌||◌, List, [], ◌∷◌, drop, Some, None, Ok, Err, codes, Option, Result, ◌==◌}
+use Rattle.std.specs.List.{before_first, position_or_len}
+use Rattle.std.specs.Option.{option_map}
 use Rattle.std.specs.Str.{bytes_eq}
 use Rattle.console.specs.declared.lines.WordFault.{WordFault}
 use Rattle.console.specs.declared.numbers.NumberFault.{NumberFault}
@@ -11,7 +13,7 @@ use Rattle.past.specs.declared.calls.Call.TheVariants.{Issue, Dispatch, Complete
 use Rattle.past.specs.declared.calls.CallFault.{CallFault}
 use Rattle.past.specs.declared.calls.CallFault.TheVariants.{Unknown, NoNumber, BadNumber, Excess}
 use Rattle.past.specs.declared.calls.Line.{Line}
-use Rattle.past.specs.declared.calls.Line.TheVariants.{Blank, Word, Call as ACall}
+use Rattle.past.specs.declared.calls.Line.TheVariants.{Word, Call as ACall}
 use Rattle.past.specs.declared.calls.LineFault.{LineFault}
 use Rattle.past.specs.declared.calls.LineFault.TheVariants.{BadWord, BadCall}
 
@@ -19,13 +21,13 @@ use Rattle.past.specs.declared.calls.LineFault.TheVariants.{BadWord, BadCall}
 abbrev pub gap : ℕ → Bool
 gap c = c == 32 || c == 9
 
+-- what stands before the first gap
 abbrev pub first_field : List ℕ → List ℕ
-first_field [] = []
-first_field (c ∷ cs) = cond (gap c) [] (c ∷ first_field cs)
+first_field bs = before_first gap bs
 
+-- the first gap, and what follows it
 abbrev pub from_gap : List ℕ → List ℕ
-from_gap [] = []
-from_gap (c ∷ cs) = cond (gap c) (c ∷ cs) (from_gap cs)
+from_gap bs = drop (position_or_len gap bs) bs
 
 abbrev pub after_field : List ℕ → List ℕ
 after_field bs = line_text (from_gap bs)
@@ -76,19 +78,17 @@ text_call (c ∷ cs) = some_call (call_named (first_field (c ∷ cs)) (after_fie
 abbrev pub line_call : List ℕ → Result (Option Call) CallFault
 line_call bs = text_call (line_text bs)
 
-abbrev pub word_line : Result (Option ℕ) WordFault → Result Line LineFault
-word_line (Ok (Some w)) = Ok (Word w)
-word_line (Ok None) = Ok Blank
+abbrev pub word_line : Result (Option ℕ) WordFault → Result (Option Line) LineFault
+word_line (Ok word) = Ok (option_map Word word)
 word_line (Err e) = Err (BadWord e)
 
-abbrev pub call_or_word : Result (Option Call) CallFault → Result Line LineFault → Result Line LineFault
-call_or_word (Ok (Some call)) w = Ok (ACall call)
-call_or_word (Ok None) w = Ok Blank
+abbrev pub call_or_word : Result (Option Call) CallFault → Result (Option Line) LineFault → Result (Option Line) LineFault
+call_or_word (Ok call) w = Ok (option_map ACall call)
 call_or_word (Err Unknown) w = w
 call_or_word (Err NoNumber) w = Err (BadCall NoNumber)
 call_or_word (Err (BadNumber e)) w = Err (BadCall (BadNumber e))
 call_or_word (Err Excess) w = Err (BadCall Excess)
 
--- a line that names no call has a word on it, until the first call
-abbrev pub first_line : List ℕ → Result Line LineFault
+-- a line that names no call has a word on it, until the first call; None for a line with nothing on it
+abbrev pub first_line : List ℕ → Result (Option Line) LineFault
 first_line bs = call_or_word (line_call bs) (word_line (line_word bs))

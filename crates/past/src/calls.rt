@@ -1,6 +1,8 @@
 // Calls by their names, one a line, after the words of the program.
-ghost use Rattle.std.specs.Prelude.{◌≡◌};
-ghost use Rattle.std.specs.Str.{bytes_eq};
+ghost use Rattle.std.specs.Prelude.{◌≡◌, ◌≤◌, length};
+ghost use Rattle.std.specs.List.{position_or_len};
+ghost use Rattle.past.specs.declared.calls.CallFault.TheVariants.{BadNumber};
+ghost use Rattle.past.specs.declared.calls.LineFault.TheVariants.{BadWord};
 ghost use Rattle.past.specs.Calls.{gap, first_field, after_field, alone, number_field, run_call, call_named, line_call, first_line};
 
 use console::lines::{WordFault, line_text, parse_line};
@@ -26,10 +28,9 @@ pub enum CallFault {
     Excess,
 }
 
-// A line before the first call is answered.
+// What a line says before the first call is answered.
 #[derive(Clone, Copy)]
 pub enum Line {
-    Blank,
     Word(u32),
     Call(Call),
 }
@@ -40,10 +41,36 @@ pub enum LineFault {
     BadCall(CallFault),
 }
 
+impl From<NumberFault> for CallFault {
+    ghost from_gives = { λ fault r. r ≡ BadNumber fault };
+
+    fn from(fault: NumberFault) -> CallFault {
+        CallFault::BadNumber(fault)
+    }
+}
+
+impl From<WordFault> for LineFault {
+    ghost from_gives = { λ fault r. r ≡ BadWord fault };
+
+    fn from(fault: WordFault) -> LineFault {
+        LineFault::BadWord(fault)
+    }
+}
+
 fn is_gap(byte: u8) -> bool
     ensures { result ≡ gap byte }
 {
     byte == b' ' || byte == b'\t'
+}
+
+// Where the first gap is, or the length where there is none.
+fn gap_index(text: &[u8]) -> usize
+    ensures place { result ≡ position_or_len gap text.now }
+    ensures within { result ≤ length text.now }
+{
+    text.iter()
+        .position(|byte| is_gap(*byte))
+        .unwrap_or(text.len())
 }
 
 // What stands before the first gap, and what follows it.
@@ -51,11 +78,8 @@ fn split_field(text: &[u8]) -> (&[u8], &[u8])
     ensures first { result.0.now ≡ first_field text.now }
     ensures rest { result.1.now ≡ after_field text.now }
 {
-    let mut end = 0;
-    while end < text.len() && !is_gap(text[end]) {
-        end += 1;
-    }
-    (&text[0..end], line_text(&text[end..]))
+    let end = gap_index(text);
+    (&text[..end], line_text(&text[end..]))
 }
 
 // A call that takes nothing more.
@@ -75,10 +99,7 @@ fn number_field(text: &[u8]) -> Result<u64, CallFault>
     if text.is_empty() {
         return Err(CallFault::NoNumber);
     }
-    match parse_number(text) {
-        Ok(number) => Ok(number),
-        Err(fault) => Err(CallFault::BadNumber(fault)),
-    }
+    Ok(parse_number(text)?)
 }
 
 // Retirements wanted, and a budget of cycles.
@@ -92,33 +113,19 @@ fn run_call(text: &[u8]) -> Result<Call, CallFault>
     alone(Call::Run { wanted, budget }, rest)
 }
 
-fn is(name: &[u8], text: &str) -> bool
-    ensures { result ≡ bytes_eq name.now text.now }
-{
-    name == text.as_bytes()
-}
-
 fn call_named(name: &[u8], rest: &[u8]) -> Result<Call, CallFault>
     ensures { result ≡ call_named name.now rest.now }
 {
-    if is(name, "issue") {
-        alone(Call::Issue, rest)
-    } else if is(name, "dispatch") {
-        alone(Call::Dispatch, rest)
-    } else if is(name, "complete") {
-        alone(Call::Complete, rest)
-    } else if is(name, "retire") {
-        alone(Call::Retire, rest)
-    } else if is(name, "cycle") {
-        alone(Call::Cycle, rest)
-    } else if is(name, "run") {
-        run_call(rest)
-    } else if is(name, "raise") {
-        alone(Call::Raise, rest)
-    } else if is(name, "drop") {
-        alone(Call::Drop, rest)
-    } else {
-        Err(CallFault::Unknown)
+    match name {
+        b"issue" => alone(Call::Issue, rest),
+        b"dispatch" => alone(Call::Dispatch, rest),
+        b"complete" => alone(Call::Complete, rest),
+        b"retire" => alone(Call::Retire, rest),
+        b"cycle" => alone(Call::Cycle, rest),
+        b"run" => run_call(rest),
+        b"raise" => alone(Call::Raise, rest),
+        b"drop" => alone(Call::Drop, rest),
+        _ => Err(CallFault::Unknown),
     }
 }
 
@@ -131,24 +138,16 @@ pub fn parse_call(line: &[u8]) -> Result<Option<Call>, CallFault>
         return Ok(None);
     }
     let (name, rest) = split_field(text);
-    match call_named(name, rest) {
-        Ok(call) => Ok(Some(call)),
-        Err(fault) => Err(fault),
-    }
+    call_named(name, rest).map(Some)
 }
 
 // A line that names no call has a word on it, until the first call.
-pub fn parse_first(line: &[u8]) -> Result<Line, LineFault>
+pub fn parse_first(line: &[u8]) -> Result<Option<Line>, LineFault>
     ensures { result ≡ first_line line.now }
 {
     match parse_call(line) {
-        Ok(Some(call)) => Ok(Line::Call(call)),
-        Ok(None) => Ok(Line::Blank),
-        Err(CallFault::Unknown) => match parse_line(line) {
-            Ok(Some(word)) => Ok(Line::Word(word)),
-            Ok(None) => Ok(Line::Blank),
-            Err(fault) => Err(LineFault::BadWord(fault)),
-        },
+        Ok(call) => Ok(call.map(Line::Call)),
+        Err(CallFault::Unknown) => Ok(parse_line(line)?.map(Line::Word)),
         Err(fault) => Err(LineFault::BadCall(fault)),
     }
 }

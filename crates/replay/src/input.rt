@@ -32,9 +32,9 @@ impl Input {
                 break;
             };
             match parse_first(line.as_slice()) {
-                Ok(Line::Blank) => {}
-                Ok(Line::Word(word)) => words.push(word)?,
-                Ok(Line::Call(call)) => return Ok((words, Some(call))),
+                Ok(None) => {}
+                Ok(Some(Line::Word(word))) => words.push(word)?,
+                Ok(Some(Line::Call(call))) => return Ok((words, Some(call))),
                 Err(fault) => {
                     return Err(Stop::Said(format!(in rt.alloc();
                         "line {}: {fault}",
