@@ -38,12 +38,13 @@ impl Buffer {
         Ok(slot)
     }
 
+    // The entry in a slot is lent, and changed in place.
     pub fn finish(&mut self, tag: u8, judgement: Judgement)
         ensures { self.new ≡ replaced tag (with_result judgement (entry_in self.old tag)) self.old }
     {
         let slot = usize::from(tag);
         if slot < self.entries.len() {
-            self.entries[slot].result = Some(judgement);
+            self.entries[slot].finish(judgement);
         }
     }
 

@@ -1,4 +1,7 @@
 // One instruction in the reorder buffer.
+ghost use Rattle.std.specs.Prelude.{◌≡◌};
+ghost use Rattle.tables.specs.Buffers.{with_result};
+
 use machine::judgement::Judgement;
 
 #[derive(Clone, Copy)]
@@ -20,4 +23,10 @@ impl Entry {
         destination: 0,
         result: None,
     };
+
+    pub(crate) fn finish(&mut self, judgement: Judgement)
+        ensures { self.new ≡ with_result judgement self.old }
+    {
+        self.result = Some(judgement);
+    }
 }
