@@ -31,7 +31,7 @@ fn is_blank(byte: u8) -> bool
 }
 
 // What stands before the first such byte, or all of it where there is none.
-pub(crate) fn text_before(byte: u8, text: &[u8]) -> &[u8]
+fn text_before(byte: u8, text: &[u8]) -> &[u8]
     ensures { result.now ≡ before byte text.now }
 {
     match text.iter().position(|found| *found == byte) {

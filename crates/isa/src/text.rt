@@ -6,6 +6,7 @@ use crate::instruction::Instruction;
 use crate::operation::Operation;
 use std::fmt;
 
+// In the order of the variants; a `match` would be an arm and a line for each of the 37.
 const MNEMONICS: [&str; 37] = [
     "lui", "auipc", "jal", "jalr", "beq", "bne", "blt", "bge", "bltu", "bgeu", "addi", "slti",
     "sltiu", "xori", "ori", "andi", "slli", "srli", "srai", "add", "sub", "sll", "slt", "sltu",

@@ -30,14 +30,10 @@ impl fmt::Display for Answer {
             Answer::Dispatch(Err(fault)) => write!(f, "dispatch refused {}", fault.number()),
             Answer::Complete(Some(tag)) => write!(f, "complete {tag}"),
             Answer::Complete(None) => f.write_str("complete nothing"),
-            Answer::Retire(answer) => match answer {
-                Ok(record) => write!(f, "retire {}", RecordLine(record)),
-                Err(fault) => write!(f, "retire refused {}", fault.number()),
-            },
-            Answer::Cycle(answer) => match answer {
-                Some(record) => write!(f, "cycle {}", RecordLine(record)),
-                None => f.write_str("cycle nothing"),
-            },
+            Answer::Retire(Ok(record)) => write!(f, "retire {}", RecordLine(record)),
+            Answer::Retire(Err(fault)) => write!(f, "retire refused {}", fault.number()),
+            Answer::Cycle(Some(record)) => write!(f, "cycle {}", RecordLine(record)),
+            Answer::Cycle(None) => f.write_str("cycle nothing"),
             Answer::Run {
                 cycles,
                 retirements,

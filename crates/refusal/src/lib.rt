@@ -1,4 +1,5 @@
 // Every refusal, with its number and the line that names it.
+// Each type has its own `number` and line: a trait for them would be imported by every caller, and saves no line here.
 #![tactic(auto)]
 
 ghost use Rattle.std.specs.Prelude.{◌≡◌, Some};
