@@ -1,2 +1,1 @@
-mod Mapping
 mod Places

@@ -24,26 +24,24 @@ pub struct Station {
 }
 
 impl Operand {
-    fn filled(self, tag: u8, value: u32) -> Operand
-        ensures { result ≡ filled tag value self }
+    fn fill(&mut self, tag: u8, value: u32)
+        ensures { self.new ≡ filled tag value self.old }
     {
-        match self {
-            Operand::Awaits(awaited) if awaited == tag => Operand::Value(value),
-            _ => self,
+        if let Operand::Awaits(awaited) = *self
+            && awaited == tag
+        {
+            *self = Operand::Value(value);
         }
     }
 }
 
 impl Station {
     // The value under a tag has come.
-    pub(crate) fn woken(self, tag: u8, value: u32) -> Station
-        ensures { result ≡ woken tag value self }
+    pub(crate) fn wake(&mut self, tag: u8, value: u32)
+        ensures { self.new ≡ woken tag value self.old }
     {
-        Station {
-            a: self.a.filled(tag, value),
-            b: self.b.filled(tag, value),
-            ..self
-        }
+        self.a.fill(tag, value);
+        self.b.fill(tag, value);
     }
 
     // None while an operand is awaited.

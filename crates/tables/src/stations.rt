@@ -1,5 +1,5 @@
 // The eight reservation stations: each serves every class.
-ghost use Rattle.std.specs.Prelude.{◌≡◌};
+ghost use Rattle.std.specs.Prelude.{◌≡◌, map};
 ghost use Rattle.machine.specs.Classes.{serves};
 ghost use Rattle.tables.specs.Waiting.{no_stations, any_free, all_placed, all_woken, all_freed, woken_place, freed_place, age, older, candidate, blocked_in, blocked, oldest_ready, goes};
 
@@ -59,7 +59,7 @@ impl Stations {
     pub fn wake(&mut self, tag: u8, value: u32)
         ensures { self.new ≡ all_woken tag value self.old }
     {
-        self.places = self.places.map(|place| woken_place(place, tag, value));
+        wake_all(&mut self.places, tag, value);
     }
 
     // The job of the oldest entry that may go to a unit; none while the entry at the head waits for room.
@@ -76,7 +76,7 @@ impl Stations {
     pub fn free(&mut self, tag: u8)
         ensures { self.new ≡ all_freed tag self.old }
     {
-        self.places = self.places.map(|place| freed_place(place, tag));
+        free_all(&mut self.places, tag);
     }
 
     pub fn clear(&mut self)
@@ -86,16 +86,37 @@ impl Stations {
     }
 }
 
-fn woken_place(place: Option<Station>, tag: u8, value: u32) -> Option<Station>
-    ensures { result ≡ woken_place tag value place }
+fn wake_place(place: &mut Option<Station>, tag: u8, value: u32)
+    ensures { place.new ≡ woken_place tag value place.old }
 {
-    place.map(|station| station.woken(tag, value))
+    if let Some(station) = place {
+        station.wake(tag, value);
+    }
 }
 
-fn freed_place(place: Option<Station>, tag: u8) -> Option<Station>
-    ensures { result ≡ freed_place tag place }
+// In place, here and below: the array's `map` copies every station, and a cycle then takes twice as long.
+fn wake_all(places: &mut [Option<Station>], tag: u8, value: u32)
+    ensures { places.new ≡ map (woken_place tag value) places.old }
 {
-    place.filter(|station| station.tag != tag)
+    for place in places.iter_mut() {
+        wake_place(place, tag, value);
+    }
+}
+
+fn free_place(place: &mut Option<Station>, tag: u8)
+    ensures { place.new ≡ freed_place tag place.old }
+{
+    if place.is_some_and(|station| station.tag == tag) {
+        *place = None;
+    }
+}
+
+fn free_all(places: &mut [Option<Station>], tag: u8)
+    ensures { places.new ≡ map (freed_place tag) places.old }
+{
+    for place in places.iter_mut() {
+        free_place(place, tag);
+    }
 }
 
 // The job that may go from a place.
