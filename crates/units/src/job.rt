@@ -5,7 +5,7 @@ ghost use Rattle.units.specs.Jobs.{word_class, job_outcome};
 use isa::operation::Class;
 use isa::outcome::Outcome;
 
-#[derive(Clone, Copy)]
+#[derive(Clone, Copy, Default)]
 pub struct Job {
     // under which the outcome is awaited
     pub tag: u8,
