@@ -46,10 +46,7 @@ impl Unit for Divider {
     ghost laws = { keeps };
 
     fn room(&self, class: Class) -> bool {
-        match (self.state, class) {
-            (State::Idle, Class::Divide) => true,
-            _ => false,
-        }
+        matches!((self.state, class), (State::Idle, Class::Divide))
     }
 
     fn take(&mut self, job: Job) -> Result<(), NoRoom>
@@ -58,13 +55,9 @@ impl Unit for Divider {
         ensures taken { Taken model Sound (room_for model self.old job.word) self.old job self.new }
         ensures state { self.new ≡ took_in self.old job }
     {
-        match self.state.admit(job.word) {
-            Some(division) => {
-                self.state = State::Working(Working::start(division, job));
-                Ok(())
-            }
-            None => Err(NoRoom),
-        }
+        let division = self.state.admit(job.word).ok_or(NoRoom)?;
+        self.state = State::Working(Working::start(division, job));
+        Ok(())
     }
 
     fn offer(&self) -> Option<Offer> {

@@ -37,11 +37,7 @@ impl Timed {
         if !self.has_waited(latency) {
             return None;
         }
-        let outcome = self.job.outcome()?;
-        Some(Offer {
-            tag: self.job.tag,
-            outcome,
-        })
+        self.job.offer()
     }
 }
 

@@ -1,15 +1,7 @@
 -- What a take does to the sides, it does to the join.
-use Rattle.join.proofs.Calls.{answer_joined, take-joined}
+use Rattle.join.proofs.Calls.{take-joined}
 use Rattle.join.proofs.JoinUnit.take.Goals as goal
 
-pub returns : goal.returns
-returns g c =
-    let l = g.A.Unit.means in
-    let r = g.B.Unit.means in
-    let sl = g.A.Unit.sound in
-    let sr = g.B.Unit.sound in
-    let u = c.args.self.now in
-    let j = c.args.job in
-    let did = c.take_left_first.ensures in
-    let call = take-joined l r sl sr u j c.take_left_first.new.self did.sides in
-    record { answer = answer_joined l r sl sr u j.word c.take_left_first.result did.answer; same = call.same; taken = call.taken; sides = did.sides }
+pub returns-clause-taken : goal.returns-clause-taken
+returns-clause-taken g c =
+    (take-joined g.A.Unit.means g.B.Unit.means g.A.Unit.sound g.B.Unit.sound c.args.self.now c.args.job c.take_left_first.new.self c.take_left_first.ensures.sides).taken
