@@ -40,10 +40,8 @@ fn of_operation(operation: Operation) -> Option<Division>
 pub(crate) fn of_word(word: u32) -> Option<Division>
     ensures { result ≡ division_in word }
 {
-    match words::read(word) {
-        Ok(instruction) => of_operation(instruction.operation),
-        Err(_) => None,
-    }
+    let instruction = words::read(word).ok()?;
+    of_operation(instruction.operation)
 }
 
 fn negate_if(negative: bool, x: u32) -> u32

@@ -6,8 +6,7 @@
 #![tactic(auto)]
 
 ghost use Rattle.std.specs.Prelude.{◌≡◌};
-ghost use Rattle.units.specs.Calls.{TakeCall, StepCall, ClearCall};
-ghost use Rattle.units.specs.Meaning.{room_for, take_answer, Empty};
+ghost use Rattle.units.specs.Meaning.{Same, room_for, take_answer, Taken, Stepped, Empty};
 ghost use Rattle.divider.specs.States.{idle, took_in, stepped_in};
 ghost use Rattle.divider.specs.Model.{model, Sound};
 ghost use Rattle.divider.specs.Meets.{keeps};
@@ -45,24 +44,18 @@ impl Unit for Divider {
     ghost laws = { keeps };
 
     fn room(&self, class: Class) -> bool {
-        match (self.state, class) {
-            (State::Idle, Class::Divide) => true,
-            _ => false,
-        }
+        matches!((self.state, class), (State::Idle, Class::Divide))
     }
 
     fn take(&mut self, job: Job) -> Result<(), NoRoom>
         ensures answer { result ≡ take_answer (room_for model self.old job.word) }
-        ensures does { TakeCall model self.old job self.new }
+        ensures same { Same model self.old self.new }
+        ensures taken { Taken model (room_for model self.old job.word) self.old job self.new }
         ensures state { self.new ≡ took_in self.old job }
     {
-        match self.state.admit(job.word) {
-            Some(division) => {
-                self.state = State::Working(Working::start(division, job));
-                Ok(())
-            }
-            None => Err(NoRoom),
-        }
+        let division = self.state.admit(job.word).ok_or(NoRoom)?;
+        self.state = State::Working(Working::start(division, job));
+        Ok(())
     }
 
     fn offer(&self) -> Option<Offer> {
@@ -79,7 +72,8 @@ impl Unit for Divider {
     }
 
     fn step(&mut self, accepted: bool)
-        ensures does { StepCall model self.old accepted self.new }
+        ensures same { Same model self.old self.new }
+        ensures stepped { Sound self.old → Stepped model self.old accepted self.new × Sound self.new }
         ensures state { self.new ≡ stepped_in accepted self.old }
     {
         match (self.state, accepted) {
@@ -90,7 +84,9 @@ impl Unit for Divider {
     }
 
     fn clear(&mut self)
-        ensures does { ClearCall model self.old self.new }
+        ensures same { Same model self.old self.new }
+        ensures empty { Empty model self.new }
+        ensures sound { Sound self.new }
         ensures state { self.new ≡ idle }
     {
         self.state = State::Idle;

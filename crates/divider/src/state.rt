@@ -70,6 +70,7 @@ impl Working {
     {
         let (quotient, remainder) = self.restore();
         if self.steps + 1 < STEPS {
+            // each field by name: a literal of a struct with ghost fields takes no `..self`
             State::Working(Working {
                 job: self.job,
                 division: self.division,

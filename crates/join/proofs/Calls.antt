@@ -1,18 +1,16 @@
 -- What a call does to the sides of a join, it does to the join as a unit.
 -- Assumes nothing.
-use Rattle.std.proofs.Common.{◌≡◌, ℕ, Bool, true, false, not, ◌||◌, Some, None, Option, Result, sym, refl, ap, ◌∙◌, subst, inl, inr}
-use Rattle.std.proofs.lemmas.Bool.{cases_eq, eqb-true, false≢true}
+use Rattle.std.proofs.Common.{◌≡◌, ℕ, Bool, true, false, not, ◌||◌, Some, None, Option, sym, refl, ap, ◌∙◌, subst, inl, inr}
+use Rattle.std.proofs.lemmas.Bool.{cases_eq}
 use Rattle.isa.specs.declared.operation.Class.{Class}
-use Rattle.refusal.specs.declared.NoRoom.{NoRoom}
 use Rattle.units.specs.declared.job.Job.{Job}
-use Rattle.units.specs.declared.job.Offer.{Offer}
 use Rattle.units.specs.Jobs.{word_class}
-use Rattle.units.specs.Meaning.{UnitModel, Held, Same, Fell, Holds, Offers, Joined, Taken, Moved, room_in, room_for, take_answer, offers_tag}
-use Rattle.units.specs.Calls.{Keeps, TakeCall, StepCall}
+use Rattle.units.specs.Meaning.{UnitModel, Same, Fell, Holds, Joined, Taken, room_in, room_for}
+use Rattle.units.specs.Calls.{TakeCall}
 use Rattle.join.specs.declared.Join.{Join}
-use Rattle.join.specs.Joined.{contested, offered, turned, granted, side_held, first_of, join_means, Apart, Sound}
-use Rattle.join.specs.Sides.{RightTakes, SidesTake, SidesStep, both_offer}
-use Rattle.join.specs.Tags.{side_moves, first_moved, apart-moved, apart_left, apart_right, fell_same, both_stay, holds_first, holds_left, holds_right, first_empty, apart-fell, apart_none, none_apart}
+use Rattle.join.specs.Joined.{side_held, first_of, join_means, Apart, Sound}
+use Rattle.join.specs.Sides.{RightTakes, SidesTake}
+use Rattle.join.specs.Tags.{fell_same, both_stay, holds_first, holds_left, holds_right, first_empty, apart-fell, apart_none, none_apart}
 
 same_joined : {A B : Type 0} (l : UnitModel A) (r : UnitModel B) (u u' : Join A B)
     → Same l u.left u'.left → Same r u.right u'.right → Same (join_means l r) u u'
@@ -21,106 +19,6 @@ same_joined l r u u' p q =
       serves = λ c. let e = p.serves c in let f = q.serves c in cc;
       stay = let e = p.stay in let f = q.stay in cc;
     }
-
--- a step ----------------------------------------------------------------------------
-
--- the join's offer and its turn are the same seen from either side
-offered_swaps : (right : Bool) (l r : Option Offer) → offered (not right) r l ≡ offered right l r
-offered_swaps true (Some l) (Some r) = refl
-offered_swaps false (Some l) (Some r) = refl
-offered_swaps right (Some l) None = refl
-offered_swaps right None (Some r) = refl
-offered_swaps right None None = refl
-
-contested_swaps : (l r : Option Offer) → contested r l ≡ contested l r
-contested_swaps (Some l) (Some r) = refl
-contested_swaps (Some l) None = refl
-contested_swaps None (Some r) = refl
-contested_swaps None None = refl
-
-not_not : (b : Bool) → not (not b) ≡ b
-not_not true = refl
-not_not false = refl
-
-not_turned : (accepted both right : Bool) → turned accepted both (not right) ≡ not (turned accepted both right)
-not_turned true true right = refl
-not_turned true false right = refl
-not_turned false both right = refl
-
--- a tag that a unit offers is held by it
-offers-held : {A : Type 0} (m : UnitModel A) (u : A) (t : ℕ) (o : Option Offer) → m.offer u ≡ o → Offers m u → offers_tag o t ≡ true
-    → (h : Held) × (m.held u t ≡ Some h)
-offers-held m u t None e offers f = absurd (false≢true f)
-offers-held m u t (Some o) e offers f =
-    let h = offers o e in
-    (h.0, ap (m.held u) (sym (eqb-true o.tag t f)) ∙ h.1)
-
--- what the join sees of one side's tag in a step
-abbrev SideMoved : Bool → Option Offer → ℕ → Bool → Option Held → Bool → Option Held → Type 0
-SideMoved accepted o t turn x turn' x' = Moved accepted (offers_tag o t) (side_held turn x) (side_held turn' x')
-
-unit-moves : {A : Type 0} (m : UnitModel A) (accepted turn : Bool) (u u' : A) (theirs : Option Offer) (t : ℕ)
-    → Keeps m → m.sound u → (offers_tag theirs t ≡ true → m.held u t ≡ None)
-    → StepCall m u (granted accepted (contested (m.offer u) theirs) turn) u'
-    → SideMoved accepted (offered (not turn) (m.offer u) theirs) t turn (m.held u t) (turned accepted (contested (m.offer u) theirs) turn) (m.held u' t)
-unit-moves m accepted turn u u' theirs t keeps s other call =
-    side_moves accepted turn (m.offer u) theirs t (m.held u t) (m.held u' t) (λ h e. (keeps.dues u s t h e).0) other ((call.stepped s).0 t)
-
-recast : (accepted : Bool) (o o' : Option Offer) (t : ℕ) (turn : Bool) (x : Option Held) (a a' : Bool) (x' : Option Held)
-    → o ≡ o' → a ≡ a' → SideMoved accepted o t turn x a x' → SideMoved accepted o' t turn x a' x'
-recast accepted o o' t turn x a a' x' e f m =
-    subst (λ (p : Option Offer). SideMoved accepted p t turn x a' x') e (subst (λ (b : Bool). SideMoved accepted o t turn x b x') f m)
-
-module _ {A B : Type 0} (l : UnitModel A) (r : UnitModel B) (kl : Keeps l) (kr : Keeps r) where
-  abbrev Sounds : Join A B → Type 0
-  Sounds = Sound l r
-
-  left_moves : (u : Join A B) (accepted : Bool) (u' : Join A B) → Sounds u → SidesStep l r u accepted u' → (t : ℕ)
-      → SideMoved accepted ((join_means l r).offer u) t (not u.right_turn) (l.held u.left t) (not u'.right_turn) (l.held u'.left t)
-  left_moves u accepted u' s sides t =
-      let turn = u.right_turn in
-      let lo = l.offer u.left in
-      let ro = r.offer u.right in
-      let gone : offers_tag ro t ≡ true → l.held u.left t ≡ None =
-      λ e. let h = offers-held r u.right t ro refl (kr.offers u.right s.right) e in apart_right h.0 _ _ h.1 (s.apart t) in
-      recast accepted (offered (not (not turn)) lo ro) (offered turn lo ro) t (not turn) (l.held u.left t) (turned accepted (contested lo ro) (not turn)) (not u'.right_turn) (l.held u'.left t)
-      (ap (λ (b : Bool). offered b lo ro) (not_not turn))
-      (not_turned accepted (contested lo ro) turn ∙ ap not (sym sides.turn))
-      (unit-moves l accepted (not turn) u.left u'.left ro t kl s.left gone sides.left)
-
-  right_moves : (u : Join A B) (accepted : Bool) (u' : Join A B) → Sounds u → SidesStep l r u accepted u' → (t : ℕ)
-      → SideMoved accepted ((join_means l r).offer u) t u.right_turn (r.held u.right t) u'.right_turn (r.held u'.right t)
-  right_moves u accepted u' s sides t =
-      let turn = u.right_turn in
-      let lo = l.offer u.left in
-      let ro = r.offer u.right in
-      let gone : offers_tag lo t ≡ true → r.held u.right t ≡ None =
-      λ e. let h = offers-held l u.left t lo refl (kl.offers u.left s.left) e in apart_left h.0 _ _ h.1 (s.apart t) in
-      let swapped = contested_swaps lo ro in
-      recast accepted (offered (not turn) ro lo) (offered turn lo ro) t turn (r.held u.right t) (turned accepted (contested ro lo) turn) u'.right_turn (r.held u'.right t)
-      (offered_swaps turn lo ro)
-      (ap (λ (b : Bool). turned accepted b turn) swapped ∙ sym sides.turn)
-      (unit-moves r accepted turn u.right u'.right lo t kr s.right gone
-      (subst (λ (b : Bool). StepCall r u.right (granted accepted b turn) u'.right) (sym swapped) sides.right))
-
-  pub step_joined : (u : Join A B) (accepted : Bool) (u' : Join A B) → SidesStep l r u accepted u' → StepCall (join_means l r) u accepted u'
-  step_joined u accepted u' sides =
-      let turn = u.right_turn in
-      let both = both_offer l r u in
-      record {
-        same = same_joined l r u u' sides.left.same sides.right.same;
-        stepped = λ s.
-            let left = sides.left.stepped s.left in
-            let right = sides.right.stepped s.right in (
-              λ t. first_moved accepted (offers_tag ((join_means l r).offer u) t) _ _ _ _ (left_moves u accepted u' s sides t) (right_moves u accepted u' s sides t),
-              record {
-                left = left.1;
-                right = right.1;
-                apart = λ t.
-                    apart-moved (granted accepted both (not turn)) (offers_tag (l.offer u.left) t) (granted accepted both turn) (offers_tag (r.offer u.right) t) _ _ _ _ (left.0 t) (right.0 t) (s.apart t);
-              },
-            );
-      }
 
 -- a take ----------------------------------------------------------------------------
 
@@ -213,7 +111,3 @@ module _ {A B : Type 0} (l : UnitModel A) (r : UnitModel B) where
             subst (λ (b : Bool). Taken (join_means l r) b u j u') (room_joined (l.room u.left) (r.room u.right) (word_class j.word))
             (taken-joined a (room_for r u.right j.word) u j u' sides.turn sides.left.taken (right_taken a u.right j u'.right sides.right));
       }
-
-  pub answer_joined : (u : Join A B) (w : ℕ) (answer : Result (Unit {0}) NoRoom)
-      → answer ≡ take_answer (room_for l u.left w || room_for r u.right w) → answer ≡ take_answer (room_for (join_means l r) u w)
-  answer_joined u w answer e = e ∙ ap take_answer (room_joined (l.room u.left) (r.room u.right) (word_class w))

@@ -2,12 +2,19 @@
 -- Assumes nothing.
 use Rattle.std.specs.Prelude.{◌≡◌, Bool, true, false, not}
 use Rattle.units.specs.declared.job.Job.{Job}
-use Rattle.units.specs.Meaning.{UnitModel, room_for}
+use Rattle.units.specs.Meaning.{UnitModel, Taken, Stepped, room_for}
 use Rattle.units.specs.Calls.{TakeCall, StepCall, ClearCall}
 use Rattle.join.specs.declared.Join.{Join}
-use Rattle.join.specs.Joined.{contested, turned, granted}
+use Rattle.join.specs.Joined.{contested, turned, granted, join_means, Sound}
 
 module _ {A B : Type 0} (l : UnitModel A) (r : UnitModel B) where
+  -- what take and step promise of a join as a unit
+  abbrev pub JoinTaken : Join A B → Job → Join A B → Type 0
+  JoinTaken u j u' = Taken (join_means l r) (room_for (join_means l r) u j.word) u j u'
+
+  abbrev pub JoinStepped : Join A B → Bool → Join A B → Type 0
+  JoinStepped u accepted u' = Sound l r u → Stepped (join_means l r) u accepted u' × Sound l r u'
+
   -- the right side is asked only where the left has no room
   abbrev pub RightTakes : Bool → B → Job → B → Type 0
   RightTakes true u j u' = u' ≡ u

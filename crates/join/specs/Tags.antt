@@ -1,13 +1,12 @@
 -- What a join holds under one tag, by what its sides hold under it.
 -- Assumes nothing.
-use Rattle.std.proofs.Common.{◌≡◌, ℕ, ◌+◌, ◌≤◌, Bool, true, false, not, Some, None, Option, refl, ap, subst, arith}
+use Rattle.std.proofs.Common.{◌≡◌, ℕ, ◌+◌, ◌≤◌, Bool, true, false, Some, None, Option, refl, subst, arith}
 use Rattle.units.specs.declared.job.Job.{Job}
-use Rattle.units.specs.declared.job.Offer.{Offer}
-use Rattle.units.specs.Meaning.{Held, Fell, Holds, Moved, offers_tag}
-use Rattle.join.specs.Joined.{contested, offered, turned, granted, doubled_due, doubled, side_held, first_of, Apart}
+use Rattle.units.specs.Meaning.{Held, Fell, Holds}
+use Rattle.join.specs.Joined.{doubled_due, doubled, side_held, first_of, Apart}
 
 pub not_none : {X : Type 0} (h : Held) (o : Option Held) → o ≡ None → o ≡ Some h → X
-not_none h o e f = let z : ◌≡◌ {A = ℕ} 0 1 = cc in absurd (omega arith)
+not_none h o e f = absurd cc
 
 -- what falls ------------------------------------------------------------------------
 
@@ -15,33 +14,15 @@ pub fell_same : (x : Option Held) → Fell 0 x x
 fell_same None = tt
 fell_same (Some h) = (refl, omega arith)
 
-fell_none : (k : ℕ) (x x' : Option Held) → x ≡ None → Fell k x x' → x' ≡ None
-fell_none k None None e f = refl
-fell_none k None (Some h') e f = absurd f
-fell_none k (Some h) x' e f = not_none h (Some h) e refl
-
 first_fell : (k : ℕ) (x x' y y' : Option Held) → Fell k x x' → Fell k y y' → Fell k (first_of x y) (first_of x' y')
 first_fell k None None y y' f g = g
 first_fell k None (Some h') y y' f g = absurd f
 first_fell k (Some h) None y y' f g = absurd f
 first_fell k (Some h) (Some h') y y' f g = f
 
--- a due that falls on its side falls in the join, whosever turn it is
-due-falls : (turn turn' : Bool) (d d' : ℕ) → d' + 1 ≤ d → doubled_due turn' d' + 1 ≤ doubled_due turn d
-due-falls true true d d' h = omega arith
-due-falls true false d d' h = omega arith
-due-falls false true d d' h = omega arith
-due-falls false false d d' h = omega arith
-
 due-stays : (turn : Bool) (d d' : ℕ) → d' + 0 ≤ d → doubled_due turn d' + 0 ≤ doubled_due turn d
 due-stays true d d' h = omega arith
 due-stays false d d' h = omega arith
-
-held-falls : (turn turn' : Bool) (x x' : Option Held) → Fell 1 x x' → Fell 1 (side_held turn x) (side_held turn' x')
-held-falls turn turn' None None f = tt
-held-falls turn turn' None (Some h') f = absurd f
-held-falls turn turn' (Some h) None f = absurd f
-held-falls turn turn' (Some h) (Some h') f = (f.0, due-falls turn turn' h.due h'.due f.1)
 
 held_stays : (turn : Bool) (x x' : Option Held) → Fell 0 x x' → Fell 0 (side_held turn x) (side_held turn x')
 held_stays turn None None f = tt
@@ -53,51 +34,6 @@ pub both_stay : (turn turn' : Bool) (x x' y y' : Option Held) → Fell 0 x x' �
     → Fell 0 (first_of (side_held turn x) (side_held turn' y)) (first_of (side_held turn x') (side_held turn' y'))
 both_stay turn turn' x x' y y' f g =
     first_fell 0 (side_held turn x) (side_held turn x') (side_held turn' y) (side_held turn' y') (held_stays turn x x' f) (held_stays turn' y y' g)
-
--- a side that was refused is next, which makes up for a due that did not fall
-held_turns : (x x' : Option Held) → ((h : Held) → x ≡ Some h → 1 ≤ h.due) → Fell 0 x x' → Fell 1 (side_held false x) (side_held true x')
-held_turns None None due f = tt
-held_turns None (Some h') due f = absurd f
-held_turns (Some h) None due f = absurd f
-held_turns (Some h) (Some h') due f = (f.0, omega (arith, f.1, due h refl))
-
--- a step ----------------------------------------------------------------------------
-
-side_gone : (turn : Bool) (x : Option Held) → x ≡ None → side_held turn x ≡ None
-side_gone turn x e = ap (side_held turn) e
-
--- a side that steps accepted
-accepted_side : (turn turn' b : Bool) (x x' : Option Held) → Moved true b x x' → Moved true b (side_held turn x) (side_held turn' x')
-accepted_side turn turn' true x x' m = side_gone turn' x' m
-accepted_side turn turn' false x x' m = held-falls turn turn' x x' m
-
--- a tag that the other side offers is not held on this one
-other_offers : (b : Bool) (x x' : Option Held) → (b ≡ true → x ≡ None) → Fell 1 x x' → Moved true b x x'
-other_offers true x x' e f = fell_none 1 x x' (e refl) f
-other_offers false x x' e f = f
-
--- what a step does to one side under one tag, as the join sees it
-pub side_moves : (accepted turn : Bool) (mine theirs : Option Offer) (t : ℕ) (x x' : Option Held)
-    → ((h : Held) → x ≡ Some h → 1 ≤ h.due)
-    → (offers_tag theirs t ≡ true → x ≡ None)
-    → Moved (granted accepted (contested mine theirs) turn) (offers_tag mine t) x x'
-    → Moved accepted (offers_tag (offered (not turn) mine theirs) t) (side_held turn x) (side_held (turned accepted (contested mine theirs) turn) x')
-side_moves false turn mine theirs t x x' due other m = held_stays turn x x' m
-side_moves true turn None theirs t x x' due other m =
-    other_offers (offers_tag theirs t) (side_held turn x) (side_held turn x') (λ e. side_gone turn x (other e)) (held-falls turn turn x x' m)
-side_moves true turn (Some o) None t x x' due other m = accepted_side turn turn (offers_tag (Some o) t) x x' m
-side_moves true true (Some o) (Some p) t x x' due other m = accepted_side true false (offers_tag (Some o) t) x x' m
-side_moves true false (Some o) (Some p) t x x' due other m =
-    other_offers (offers_tag (Some p) t) (side_held false x) (side_held true x') (λ e. side_gone false x (other e)) (held_turns x x' due m)
-
-first_none : (x y : Option Held) → x ≡ None → y ≡ None → first_of x y ≡ None
-first_none x y e f = cc
-
-pub first_moved : (accepted b : Bool) (x x' y y' : Option Held)
-    → Moved accepted b x x' → Moved accepted b y y' → Moved accepted b (first_of x y) (first_of x' y')
-first_moved true true x x' y y' m n = first_none x' y' m n
-first_moved true false x x' y y' m n = first_fell 1 x x' y y' m n
-first_moved false b x x' y y' m n = first_fell 0 x x' y y' m n
 
 -- apart -----------------------------------------------------------------------------
 
@@ -119,23 +55,8 @@ fell-lasts k None None f = tt
 fell-lasts k None (Some h') f = f
 fell-lasts k (Some h) x' f = tt
 
-moved-lasts : (accepted b : Bool) (x x' : Option Held) → Moved accepted b x x' → Lasts x x'
-moved-lasts true true None None m = tt
-moved-lasts true true None (Some h') m = not_none h' (Some h') m refl
-moved-lasts true true (Some h) x' m = tt
-moved-lasts true false x x' m = fell-lasts 1 x x' m
-moved-lasts false b x x' m = fell-lasts 0 x x' m
-
-pub apart-moved : (a b c d : Bool) (x x' y y' : Option Held) → Moved a b x x' → Moved c d y y' → Apart x y → Apart x' y'
-apart-moved a b c d x x' y y' m n = apart-lasts x x' y y' (moved-lasts a b x x' m) (moved-lasts c d y y' n)
-
 pub apart-fell : (x x' y y' : Option Held) → Fell 0 x x' → Fell 0 y y' → Apart x y → Apart x' y'
 apart-fell x x' y y' f g = apart-lasts x x' y y' (fell-lasts 0 x x' f) (fell-lasts 0 y y' g)
-
-pub apart_left : (h : Held) (x y : Option Held) → x ≡ Some h → Apart x y → y ≡ None
-apart_left h None y e a = not_none h None refl e
-apart_left h (Some k) None e a = refl
-apart_left h (Some k) (Some k') e a = absurd a
 
 pub apart_right : (h : Held) (x y : Option Held) → y ≡ Some h → Apart x y → x ≡ None
 apart_right h None y e a = refl

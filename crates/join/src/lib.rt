@@ -2,11 +2,10 @@
 #![tactic(auto)]
 
 ghost use Rattle.std.specs.Prelude.{◌≡◌, ◌||◌};
-ghost use Rattle.units.specs.Calls.{TakeCall, StepCall, ClearCall};
-ghost use Rattle.units.specs.Meaning.{room_for, take_answer};
+ghost use Rattle.units.specs.Meaning.{Same, Empty, room_for, take_answer};
 ghost use Rattle.units.specs.Runs.{OfferedWithinStay};
-ghost use Rattle.join.specs.Joined.{joined, join_means, contested};
-ghost use Rattle.join.specs.Sides.{SidesTake, SidesStep, SidesClear};
+ghost use Rattle.join.specs.Joined.{joined, join_means, Sound, contested};
+ghost use Rattle.join.specs.Sides.{JoinTaken, JoinStepped, SidesTake, SidesStep, SidesClear};
 ghost use Rattle.join.specs.Keeps.{join_keeps};
 
 use isa::operation::Class;
@@ -77,7 +76,8 @@ impl<A: Unit, B: Unit> Unit for Join<A, B> {
 
     fn take(&mut self, job: Job) -> Result<(), NoRoom>
         ensures answer { result ≡ take_answer (room_for (join_means A.Unit.means B.Unit.means) self.old job.word) }
-        ensures does { TakeCall (join_means A.Unit.means B.Unit.means) self.old job self.new }
+        ensures same { Same (join_means A.Unit.means B.Unit.means) self.old self.new }
+        ensures taken { JoinTaken A.Unit.means B.Unit.means self.old job self.new }
         ensures sides { SidesTake A.Unit.means B.Unit.means self.old job self.new }
     {
         self.take_left_first(job)
@@ -92,14 +92,17 @@ impl<A: Unit, B: Unit> Unit for Join<A, B> {
     }
 
     fn step(&mut self, accepted: bool)
-        ensures does { StepCall (join_means A.Unit.means B.Unit.means) self.old accepted self.new }
+        ensures same { Same (join_means A.Unit.means B.Unit.means) self.old self.new }
+        ensures stepped { JoinStepped A.Unit.means B.Unit.means self.old accepted self.new }
         ensures sides { SidesStep A.Unit.means B.Unit.means self.old accepted self.new }
     {
         self.step_in_turn(accepted)
     }
 
     fn clear(&mut self)
-        ensures does { ClearCall (join_means A.Unit.means B.Unit.means) self.old self.new }
+        ensures same { Same (join_means A.Unit.means B.Unit.means) self.old self.new }
+        ensures empty { Empty (join_means A.Unit.means B.Unit.means) self.new }
+        ensures sound { Sound A.Unit.means B.Unit.means self.new }
         ensures sides { SidesClear A.Unit.means B.Unit.means self.old self.new }
     {
         self.left.clear();

@@ -63,7 +63,7 @@ module _ (L : ℕ) where
   none_tagged p [] t = λ h. tt
   none_tagged p (x ∷ xs) t =
       by_tag (λ o. o ≡ None → AllByRecursion (λ y. y.job.tag ≢ t) (x ∷ xs)) p x xs t
-      (λ _ h. let z : ◌≡◌ {A = ℕ} 0 1 = cc in absurd (omega arith))
+      (λ _ h. absurd cc)
       (λ ne h. (ne, none_tagged (due_after L p x) xs t h))
 
   pub joins : (p : ℕ) (xs : List Timed) (j : Job) → AllByRecursion (λ y. y.job.tag ≢ j.tag) xs

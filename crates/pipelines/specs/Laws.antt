@@ -7,13 +7,13 @@ use Rattle.isa.specs.declared.operation.Class.{Class}
 use Rattle.isa.specs.declared.outcome.Outcome.{Outcome}
 use Rattle.units.specs.declared.job.Job.{Job}
 use Rattle.units.specs.declared.job.Offer.{Offer}
-use Rattle.units.specs.Jobs.{word_class, job_outcome}
+use Rattle.units.specs.Jobs.{word_class, job_outcome, offer_of}
 use Rattle.units.specs.Meaning.{Held, UnitModel, Dues, Tags, Offers, Rooms, EmptyRooms, Same, room_in, Fell, Holds, Moved, offers_tag, Taken, Stepped}
 use Rattle.units.specs.Calls.{Keeps}
 use Rattle.units.proofs.Classed.{classed_outcome}
 use Rattle.pipelines.specs.declared.queue.Timed.{Timed}
 use Rattle.pipelines.specs.Queues.{pushed, stepped}
-use Rattle.pipelines.specs.Pipelines.{held_after, held_from, offer_of, offered, room_left, pipeline, taken, Sound}
+use Rattle.pipelines.specs.Pipelines.{held_after, held_from, offered, room_left, pipeline, taken, Sound}
 use Rattle.pipelines.specs.Dues.{InTurn, if_held, in_turn, none_tagged, joins, others}
 use Rattle.pipelines.specs.Steps.{moves, sound-stepped, sound-pushed}
 
@@ -31,13 +31,13 @@ offer_of_lem : (j : Job) (r : Option Outcome) (b : Bool) (o : Offer) → cond b 
 offer_of_lem j (Some v) true o e =
     let i = some_is (record { tag = j.tag; outcome = v }) o e in
     (ap (λ (x : Offer). x.tag) i, ap (λ (x : Offer). Some x.outcome) i)
-offer_of_lem j None true o e = let z : ◌≡◌ {A = ℕ} 0 1 = cc in absurd (omega arith)
-offer_of_lem j r false o e = let z : ◌≡◌ {A = ℕ} 0 1 = cc in absurd (omega arith)
+offer_of_lem j None true o e = absurd cc
+offer_of_lem j r false o e = absurd cc
 
 -- an offer is of the oldest job
 offer-held : (L : ℕ) (xs : List Timed) (o : Offer) → offered L xs ≡ Some o
     → (h : Held) × (held_from L 0 xs o.tag ≡ Some h) × (job_outcome h.job ≡ Some o.outcome)
-offer-held L [] o e = let z : ◌≡◌ {A = ℕ} 0 1 = cc in absurd (omega arith)
+offer-held L [] o e = absurd cc
 offer-held L (x ∷ xs) o e =
     let h = held_after L 0 x in
     let i = offer_of_lem x.job (job_outcome x.job) (nat_le L x.passed) o e in
@@ -51,7 +51,7 @@ empty-length L (x ∷ xs) none = absurd ((none_tagged L 0 (x ∷ xs) x.job.tag (
 -- room for a word is room for its class
 room-class : (room : Class → Bool) (k : Option Class) → room_in room k ≡ true → (c : Class) × (k ≡ Some c) × (room c ≡ true)
 room-class room (Some c) e = (c, refl, e)
-room-class room None e = let z : ◌≡◌ {A = ℕ} 0 1 = cc in absurd (omega arith)
+room-class room None e = absurd cc
 
 module _ {A : Type 0} (L N : ℕ) (serves : Class → Bool) (jobs : A → List Timed) where
   abbrev unit : UnitModel A

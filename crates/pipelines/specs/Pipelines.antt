@@ -6,7 +6,7 @@ use Rattle.isa.specs.declared.operation.Class.{Class}
 use Rattle.isa.specs.declared.outcome.Outcome.{Outcome}
 use Rattle.units.specs.declared.job.Job.{Job}
 use Rattle.units.specs.declared.job.Offer.{Offer}
-use Rattle.units.specs.Jobs.{word_class, job_outcome}
+use Rattle.units.specs.Jobs.{word_class, job_outcome, job_offer}
 use Rattle.units.specs.Meaning.{Held, UnitModel, room_in}
 use Rattle.pipelines.specs.declared.queue.Timed.{Timed}
 use Rattle.pipelines.specs.Queues.{waited, pushed}
@@ -23,13 +23,9 @@ abbrev pub held_from : ℕ → ℕ → List Timed → ℕ → Option Held
 held_from L p [] t = None
 held_from L p (x ∷ xs) t = cond (x.job.tag == t) (Some (held_after L p x)) (held_from L (due_after L p x) xs t)
 
-abbrev pub offer_of : Job → Option Outcome → Option Offer
-offer_of j (Some o) = Some (record { tag = j.tag; outcome = o })
-offer_of j None = None
-
 -- the outcome of a job that has waited
 abbrev pub outcome_offer : ℕ → Timed → Option Offer
-outcome_offer L x = cond (waited L x) (offer_of x.job (job_outcome x.job)) None
+outcome_offer L x = cond (waited L x) (job_offer x.job) None
 
 -- the oldest is offered
 abbrev pub offered : ℕ → List Timed → Option Offer

@@ -4,14 +4,9 @@ use Rattle.std.specs.Prelude.{ℕ, ◌+◌, min, Bool, false, cond, ◌&&◌, Li
 use Rattle.units.specs.declared.job.Job.{Job}
 use Rattle.pipelines.specs.declared.queue.Timed.{Timed}
 use Rattle.pipelines.specs.declared.queue.Queue.{Queue}
-use Rattle.pipelines.specs.declared.queue.Queue.TheVariants.{Empty, One, Two, Three, Four}
 
 abbrev pub jobs_of : Queue → List Timed
-jobs_of Empty = []
-jobs_of (One a) = a ∷ []
-jobs_of (Two a b) = a ∷ b ∷ []
-jobs_of (Three a b c) = a ∷ b ∷ c ∷ []
-jobs_of (Four a b c d) = a ∷ b ∷ c ∷ d ∷ []
+jobs_of q = q.jobs.items
 
 abbrev pub oldest : List Timed → Option Timed
 oldest [] = None

@@ -7,11 +7,11 @@ use Rattle.std.proofs.lemmas.List.{length-map, length_push}
 use Rattle.std.proofs.ByRecursion.{All-map, All-push, All-weaker}
 use Rattle.isa.specs.declared.outcome.Outcome.{Outcome}
 use Rattle.units.specs.declared.job.Job.{Job}
-use Rattle.units.specs.Jobs.{job_outcome}
+use Rattle.units.specs.Jobs.{job_outcome, offer_of}
 use Rattle.units.specs.Meaning.{Fell, Moved, offers_tag}
 use Rattle.pipelines.specs.declared.queue.Timed.{Timed}
 use Rattle.pipelines.specs.Queues.{ticked, fresh, pushed, rest, ready, stepped}
-use Rattle.pipelines.specs.Pipelines.{due_after, held_after, held_from, offer_of, offered, Apart, Worked, Sound}
+use Rattle.pipelines.specs.Pipelines.{due_after, held_after, held_from, offered, Apart, Worked, Sound}
 use Rattle.pipelines.specs.Cases.{by_eqb, by_leb, both}
 use Rattle.pipelines.specs.Dues.{falls, none_held}
 

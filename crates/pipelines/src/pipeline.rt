@@ -46,7 +46,7 @@ impl<S: Service> Pipeline<S> {
         ensures { jobs_of result.queue ≡ [] }
     {
         Pipeline {
-            queue: Queue::Empty,
+            queue: Queue::new(),
             service: PhantomData,
         }
     }
@@ -70,7 +70,7 @@ impl<S: Service> Unit for Pipeline<S> {
         if !self.room(class) {
             return Err(NoRoom);
         }
-        self.queue = self.queue.push(job);
+        self.queue.push(job);
         Ok(())
     }
 
@@ -81,12 +81,12 @@ impl<S: Service> Unit for Pipeline<S> {
     fn step(&mut self, accepted: bool)
         ensures { jobs self.new ≡ stepped S.LATENCY accepted (jobs self.old) }
     {
-        self.queue = self.queue.step(S::LATENCY, accepted);
+        self.queue.step(S::LATENCY, accepted);
     }
 
     fn clear(&mut self)
         ensures { jobs self.new ≡ [] }
     {
-        self.queue = Queue::Empty;
+        self.queue.clear();
     }
 }

@@ -1,18 +1,18 @@
 -- The single-job unit keeps the meaning of a unit.
 -- Assumes nothing.
 use Rattle.std.specs.Prelude.{◌≡◌, ℕ, Bool, true, cond, ◌&&◌, Some, None, Option, refl}
-use Rattle.std.proofs.Common.{sym, ap, subst, ◌∙◌, arith, rules}
+use Rattle.std.proofs.Common.{sym, ap, subst, ◌∙◌, rules}
 use Rattle.std.proofs.lemmas.Bool.{eq-eqb, ne_eqb}
 use Rattle.isa.specs.declared.operation.Class.{Class}
 use Rattle.isa.specs.declared.operation.Class.TheVariants.{Plain, Multiply, Divide, Transfer}
 use Rattle.units.specs.declared.job.Job.{Job}
 use Rattle.units.specs.declared.job.Offer.{Offer}
-use Rattle.units.specs.Jobs.{word_class, job_outcome}
+use Rattle.units.specs.Jobs.{word_class, job_outcome, offer_of}
 use Rattle.units.specs.Meaning.{Held, Fell, Holds, Joined, Taken, room_in}
 use Rattle.units.specs.Calls.{Keeps}
 use Rattle.units.proofs.Classed.{classed_outcome}
 use Rattle.single.specs.declared.Single.{Single}
-use Rattle.single.specs.Single.{serves_plain, held_in, with_outcome, offer_in, room_beside, single, Sound}
+use Rattle.single.specs.Single.{serves_plain, held_in, offer_in, room_beside, single, Sound}
 
 abbrev with : Option Job → Single
 with o = record { job = o }
@@ -23,9 +23,9 @@ held_here j = ap (λ b. cond b (Some (record { job = j; due = 1 })) None) (eq-eq
 -- what is offered is its job's outcome
 offers : (o : Option Job) → Sound o → (x : Offer) → offer_in o ≡ Some x
     → (h : Held) × (held_in o x.tag ≡ Some h) × (job_outcome h.job ≡ Some x.outcome)
-offers None s x e = let z : ◌≡◌ {A = ℕ} 0 1 = cc in absurd (omega arith)
+offers None s x e = absurd cc
 offers (Some j) s x e =
-    let given : Some (record { tag = j.tag; outcome = s.0 }) ≡ Some x = ap (with_outcome j) (sym s.1) ∙ e in
+    let given : Some (record { tag = j.tag; outcome = s.0 }) ≡ Some x = ap (offer_of j) (sym s.1) ∙ e in
     let same : ◌≡◌ {A = Offer} (record { tag = j.tag; outcome = s.0 }) x = cc in
     let tag : j.tag ≡ x.tag = ap (λ (y : Offer). y.tag) same in
     let out : s.0 ≡ x.outcome = ap (λ (y : Offer). y.outcome) same in
@@ -36,8 +36,7 @@ empty-rooms : (o : Option Job) → ((t : ℕ) → held_in o t ≡ None) → (c :
 empty-rooms None h c e = ap (λ b. b && true) e
 empty-rooms (Some j) h c e =
     let gone = sym (held_here j) ∙ h j.tag in
-    let z : ◌≡◌ {A = ℕ} 0 1 = cc in
-    absurd (omega arith)
+    absurd cc
 
 pub keeps : Keeps single
 keeps = record {

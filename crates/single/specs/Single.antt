@@ -6,7 +6,7 @@ use Rattle.isa.specs.declared.operation.Class.TheVariants.{Plain, Multiply, Divi
 use Rattle.isa.specs.declared.outcome.Outcome.{Outcome}
 use Rattle.units.specs.declared.job.Job.{Job}
 use Rattle.units.specs.declared.job.Offer.{Offer}
-use Rattle.units.specs.Jobs.{word_class, job_outcome}
+use Rattle.units.specs.Jobs.{word_class, job_outcome, job_offer}
 use Rattle.units.specs.Meaning.{Held, UnitModel, room_in}
 use Rattle.single.specs.declared.Single.{Single}
 
@@ -25,12 +25,8 @@ abbrev pub held_in : Option Job → ℕ → Option Held
 held_in (Some j) t = cond (j.tag == t) (Some (record { job = j; due = 1 })) None
 held_in None t = None
 
-abbrev pub with_outcome : Job → Option Outcome → Option Offer
-with_outcome j (Some o) = Some (record { tag = j.tag; outcome = o })
-with_outcome j None = None
-
 abbrev pub offer_in : Option Job → Option Offer
-offer_in (Some j) = with_outcome j (job_outcome j)
+offer_in (Some j) = job_offer j
 offer_in None = None
 
 abbrev pub room_beside : Option Job → Class → Bool

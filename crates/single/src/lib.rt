@@ -46,12 +46,7 @@ impl Unit for Single {
     }
 
     fn offer(&self) -> Option<Offer> {
-        let job = self.job?;
-        let outcome = job.outcome()?;
-        Some(Offer {
-            tag: job.tag,
-            outcome,
-        })
+        self.job?.offer()
     }
 
     fn step(&mut self, accepted: bool) {

@@ -17,7 +17,7 @@ pub record DueIn (n : ℕ) (j : Job) (o : Option Held) : Type 0 where
   pub due : held.due ≤ n
 
 not_none : {X : Type 0} (h : Held) (o : Option Held) → o ≡ None → o ≡ Some h → X
-not_none h o e f = cc
+not_none h o e f = absurd cc
 
 -- where the dues fell by k, the job is due k steps sooner
 after_fall : (k p n : ℕ) (j : Job) (o o' : Option Held) → p ≤ n + k → Fell k o o' → DueIn p j o → DueIn n j o'

@@ -1,11 +1,11 @@
 // What a unit is given, and what it gives back.
 ghost use Rattle.std.specs.Prelude.{◌≡◌};
-ghost use Rattle.units.specs.Jobs.{word_class, job_outcome};
+ghost use Rattle.units.specs.Jobs.{word_class, job_outcome, job_offer};
 
 use isa::operation::Class;
 use isa::outcome::Outcome;
 
-#[derive(Clone, Copy)]
+#[derive(Clone, Copy, Default)]
 pub struct Job {
     // under which the outcome is awaited
     pub tag: u8,
@@ -26,10 +26,8 @@ pub struct Offer {
 pub fn word_class(word: u32) -> Option<Class>
     ensures { result ≡ word_class word }
 {
-    match words::read(word) {
-        Ok(instruction) => instruction.operation.class(),
-        Err(_) => None,
-    }
+    let instruction = words::read(word).ok()?;
+    instruction.operation.class()
 }
 
 impl Job {
@@ -37,9 +35,18 @@ impl Job {
     pub fn outcome(self) -> Option<Outcome>
         ensures { result ≡ job_outcome self }
     {
-        match words::read(self.word) {
-            Ok(instruction) => execute::outcome(instruction, self.pc, self.a, self.b),
-            Err(_) => None,
-        }
+        let instruction = words::read(self.word).ok()?;
+        execute::outcome(instruction, self.pc, self.a, self.b)
+    }
+
+    // The outcome under the job's tag.
+    pub fn offer(self) -> Option<Offer>
+        ensures { result ≡ job_offer self }
+    {
+        let outcome = self.outcome()?;
+        Some(Offer {
+            tag: self.tag,
+            outcome,
+        })
     }
 }

@@ -1,7 +1,7 @@
 // The meaning of a functional unit: what the core above relies on, and all that it relies on.
 ghost use Rattle.std.specs.Prelude.{◌≡◌};
-ghost use Rattle.units.specs.Calls.{Keeps, TakeCall, StepCall, ClearCall};
-ghost use Rattle.units.specs.Meaning.{UnitModel, room_for, take_answer};
+ghost use Rattle.units.specs.Calls.{Keeps};
+ghost use Rattle.units.specs.Meaning.{UnitModel, Same, room_for, take_answer, Taken, Stepped, Empty};
 
 use crate::job::{Job, Offer};
 use isa::operation::Class;
@@ -15,16 +15,20 @@ pub trait Unit {
 
     fn take(&mut self, job: Job) -> Result<(), NoRoom>
         ensures answer { result ≡ take_answer (room_for means self.old job.word) }
-        ensures does { TakeCall means self.old job self.new };
+        ensures same { Same means self.old self.new }
+        ensures taken { Taken means (room_for means self.old job.word) self.old job self.new };
 
     fn offer(&self) -> Option<Offer>
         ensures { result ≡ means.offer self.now };
 
     fn step(&mut self, accepted: bool)
-        ensures { StepCall means self.old accepted self.new };
+        ensures same { Same means self.old self.new }
+        ensures stepped { means.sound self.old → Stepped means self.old accepted self.new × means.sound self.new };
 
     fn clear(&mut self)
-        ensures { ClearCall means self.old self.new };
+        ensures same { Same means self.old self.new }
+        ensures empty { Empty means self.new }
+        ensures sound { means.sound self.new };
 
     // what every unit keeps
     ghost laws: { Keeps means };

@@ -11,8 +11,6 @@ take-tells c =
     let j = c.args.job in
     record {
       answer = c.ensures.answer;
-      does = record {
-        same = record { serves = λ k. refl; stay = refl };
-        taken = takes u.job v.job j (word_class j.word) c.ensures.exact refl;
-      };
+      same = record { serves = λ k. refl; stay = refl };
+      taken = takes u.job v.job j (word_class j.word) c.ensures.exact refl;
     }

@@ -11,10 +11,8 @@ take-tells g c =
     let v = c.new.self.now in
     record {
       answer = c.ensures.answer;
-      does = record {
-        same = same s.LATENCY s.CAPACITY s.serves jobs u v;
-        taken = takes s.LATENCY s.CAPACITY s.serves jobs u v c.args.job c.ensures.refused c.ensures.exact;
-      };
+      same = same s.LATENCY s.CAPACITY s.serves jobs u v;
+      taken = takes s.LATENCY s.CAPACITY s.serves jobs u v c.args.job c.ensures.refused c.ensures.exact;
     }
 
 pub step-tells : goal.step-tells
