@@ -1,6 +1,7 @@
 // One instruction in the reorder buffer.
 use machine::judgement::Judgement;
 
+// Word and destination are 0 for none, as in the record that they go to.
 #[derive(Clone, Copy)]
 pub struct Entry {
     pub pc: u32,
