@@ -2,6 +2,7 @@
 ghost use Rattle.std.specs.Prelude.{◌≡◌, ◌≤◌, ◌++◌, length, drop};
 ghost use Rattle.machine.specs.Programs.{no_program, program_of, word_at};
 
+// A fixed table, since a core has no heap; load copies into it.
 #[derive(Clone, Copy)]
 pub struct Program {
     words: [u32; 1024],

@@ -17,6 +17,7 @@ impl Retirement {
     }
 }
 
+// Numbers throughout, 0 where there is none, since that is how records are published.
 #[derive(Clone, Copy, Debug, PartialEq, Eq)]
 pub struct Record {
     pub pc: u32,

@@ -6,6 +6,7 @@ use crate::entry::Entry;
 use machine::judgement::Judgement;
 use refusal::IssueFault;
 
+// A ring of fixed size, since a core has no heap and the slot of an entry is its tag.
 #[derive(Clone, Copy)]
 pub struct Buffer {
     pub(crate) entries: [Entry; 16],
@@ -38,7 +39,7 @@ impl Buffer {
         Ok(slot)
     }
 
-    // The entry in a slot is lent, and changed in place.
+    // The entry in a slot is lent, and changed in place. Not by `get_mut`: no contract says what a write to what it lends changes.
     pub fn finish(&mut self, tag: u8, judgement: Judgement)
         ensures { self.new ≡ replaced tag (with_result judgement (entry_in self.old tag)) self.old }
     {

@@ -4,6 +4,7 @@ ghost use Rattle.tables.specs.Buffers.{with_result};
 
 use machine::judgement::Judgement;
 
+// Word and destination are 0 for none, as in the record that they go to.
 #[derive(Clone, Copy)]
 pub struct Entry {
     pub pc: u32,

@@ -5,6 +5,7 @@ ghost use Rattle.tables.specs.Waiting.{filled, woken, job_of};
 use isa::operation::Class;
 use units::job::Job;
 
+// No Result, since to await an operand is no failure.
 #[derive(Clone, Copy)]
 pub enum Operand {
     Value(u32),
