@@ -37,6 +37,7 @@ impl<A: Unit, B: Unit> Join<A, B> {
         ensures answer { result ≡ take_answer (room_for A.Unit.means self.old.left job.word || room_for B.Unit.means self.old.right job.word) }
         ensures sides { SidesTake A.Unit.means B.Unit.means self.old job self.new }
     {
+        // not `or_else`: what its closure does to the right side was not proved
         match self.left.take(job) {
             Ok(()) => Ok(()),
             Err(_) => self.right.take(job),
