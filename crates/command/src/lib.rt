@@ -1,0 +1,12 @@
+// What every command-line program does.
+//
+//   exit       says why a program stops
+//   argument   a refused argument, in a line for people
+//   input      the program's words, from standard input
+//   registers  the registers that are not 0, in lines
+#![tactic(auto)]
+
+pub mod argument;
+pub mod exit;
+pub mod input;
+pub mod registers;

@@ -1,0 +1,43 @@
+-- The two engines: the sequential machine, and the core over its unit.
+-- Assumes nothing.
+use Rattle.std.specs.Prelude.{◌≡◌, ℕ, Bool, List, Some, Option}
+use Rattle.machine.specs.declared.record.Record.{Record}
+use Rattle.machine.specs.declared.state.Machine.{Machine}
+use Rattle.machine.specs.Classes.{serves, every_class}
+use Rattle.machine.specs.Step.{step}
+use Rattle.units.specs.Meaning.{UnitModel}
+use Rattle.law.specs.declared.state.Running.{Running}
+use Rattle.law.specs.declared.state.Stopped.{Stopped}
+use Rattle.law.specs.Calls.{LineCall, CycleCall, StopCall, StartCall}
+use Rattle.scheduler.specs.Stops.{loaded}
+use Rattle.engines.specs.Retirements.{AdvancesTo}
+
+-- one step of the machine, with every class served, under the line
+pub record MachineSteps (line : Bool) (m : Machine) (answer : Option Record) (m' : Machine) : Type 0 where
+  pub answers : answer ≡ Some (step (serves every_class) line m).1
+  pub state : m' ≡ (step (serves every_class) line m).0
+
+module _ {A : Type 0} (m : UnitModel A) (sound : A → Type 0) where
+  -- a cycle of the core under a line: the line is as asked, and then one cycle is made
+  pub record LinedCycle (line : Bool) (k : Running A) (answer : Option Record) (k' : Running A) : Type 0 where
+    -- the core between the two
+    pub lined : Running A
+    pub sets : LineCall m sound line k lined
+    pub cycles : CycleCall m sound lined answer k'
+
+  -- at most so many cycles, up to the first record
+  abbrev pub CyclesTo : (most : ℕ) → Running A → Option Record → Running A → Type 0
+  CyclesTo most k answer k' = AdvancesTo (CycleCall m sound) most k answer k'
+
+  -- What the core does for one retirement: the line is as asked, and cycles are made until one answers a record.
+  pub record LinedCycles (most : ℕ) (line : Bool) (k : Running A) (answer : Option Record) (k' : Running A) : Type 0 where
+    -- the core between the two
+    pub lined : Running A
+    pub sets : LineCall m sound line k lined
+    pub cycles : CyclesTo most lined answer k'
+
+  -- The core is stopped, takes the program, and is started again.
+  pub record Restarts (words : List ℕ) (pc vector : ℕ) (k k' : Running A) : Type 0 where
+    pub stopped : Stopped A
+    pub stops : StopCall m sound k stopped
+    pub starts : StartCall m sound (loaded words pc vector stopped) k'

@@ -1,0 +1,123 @@
+// What makes the retirements of a run, advance by advance: the sequential machine, or the core over its unit.
+#![tactic(auto)]
+
+ghost use Rattle.std.specs.Prelude.{◌≡◌, ◌≤◌, ℕ, Bool, List, Option, IfOk};
+ghost use Rattle.machine.specs.declared.record.Record.{Record};
+ghost use Rattle.std.specs.Result.{result_map_both};
+ghost use Rattle.machine.specs.States.{load_answer, load_state};
+ghost use Rattle.machine.specs.declared.state.Machine.{Machine};
+ghost use Rattle.law.specs.Calls.{LineCall};
+ghost use Rattle.engines.specs.Retirements.{AdvancesTo};
+ghost use Rattle.engines.specs.Engines.{MachineSteps, LinedCycle, LinedCycles, Restarts};
+ghost use Rattle.engines.specs.Waits.{machine_retires, core_retires};
+
+use machine::classes::Classes;
+use machine::record::Record;
+use machine::state::Machine;
+use refusal::LoadFault;
+use scheduler::running::Running;
+use units::unit::Unit;
+
+pub trait Engine {
+    // What one advance under a line answers, and leaves.
+    ghost Advances: { Bool → Self → Option Record → Self → Type 0 };
+
+    // What at most so many advances come to, up to the first record.
+    ghost Retires: { ℕ → Bool → Self → Option Record → Self → Type 0 };
+
+    // What a program that is taken makes of it.
+    ghost Restarts: { List ℕ → ℕ → ℕ → Self → Self → Type 0 };
+
+    // As programmers see it.
+    ghost machine_of: { Self → Machine };
+
+    // Drops what is in flight, and begins a program.
+    fn restart(self, words: &[u32], pc: u32, vector: u32) -> Result<Self, LoadFault>
+        ensures answer { result_map_both (λ e. tt) (λ f. f) result ≡ load_answer words.now pc vector }
+        ensures state { IfOk result (λ e. Restarts words.now pc vector self e) };
+
+    fn advance(&mut self, line: bool) -> Option<Record>
+        ensures { Advances line self.old result self.new };
+
+    fn machine(&self) -> &Machine
+        ensures { result.now ≡ machine_of self.now };
+
+    ghost advances_retire: { (most : ℕ) (line : Bool) (e : Self) (a : Option Record) (e' : Self) → 1 ≤ most
+        → AdvancesTo (Advances line) most e a e' → Retires most line e a e' };
+}
+
+impl Engine for Machine {
+    ghost Advances = { MachineSteps };
+
+    ghost Retires = { λ most. MachineSteps };
+
+    ghost Restarts = { λ words pc vector m m'. m' ≡ load_state words pc vector m };
+
+    ghost machine_of = { λ m. m };
+
+    ghost advances_retire = { machine_retires };
+
+    fn restart(mut self, words: &[u32], pc: u32, vector: u32) -> Result<Machine, LoadFault> {
+        self.load(words, pc, vector)?;
+        Ok(self)
+    }
+
+    fn advance(&mut self, line: bool) -> Option<Record> {
+        Some(self.step(Classes::ALL, line))
+    }
+
+    fn machine(&self) -> &Machine {
+        self
+    }
+}
+
+fn set_line<U: Unit>(core: &mut Running<U>, line: bool)
+    ensures { LineCall U.Unit.means U.Unit.sound line core.old.state core.new.state }
+{
+    if line {
+        core.raise_line();
+    } else {
+        core.drop_line();
+    }
+}
+
+impl<U: Unit + Drop> Engine for Running<U> {
+    ghost Advances = { λ line k answer k'. LinedCycle U.Unit.means U.Unit.sound line k.state answer k'.state };
+
+    ghost Retires = { λ most line k answer k'. LinedCycles U.Unit.means U.Unit.sound most line k.state answer k'.state };
+
+    ghost Restarts = { λ words pc vector k k'. Restarts U.Unit.means U.Unit.sound words pc vector k.state k'.state };
+
+    ghost machine_of = { λ k. k.state.core.machine };
+
+    ghost advances_retire = { core_retires U.Unit.means U.Unit.sound (λ k. k.state) };
+
+    fn restart(self, words: &[u32], pc: u32, vector: u32) -> Result<Running<U>, LoadFault> {
+        let mut stopped = self.stop();
+        stopped.load(words, pc, vector)?;
+        Ok(stopped.start())
+    }
+
+    fn advance(&mut self, line: bool) -> Option<Record> {
+        set_line(self, line);
+        self.cycle()
+    }
+
+    fn machine(&self) -> &Machine {
+        Running::machine(self)
+    }
+}
+
+// The next retirement under the line, or None if so many advances make none.
+pub fn next_retirement<E: Engine>(engine: &mut E, line: bool, most: u64) -> Option<Record>
+    ensures advances { AdvancesTo (E.Advances line) most engine.old result engine.new }
+    ensures retires { 1 ≤ most → E.Retires most line engine.old result engine.new }
+{
+    for _advance in 0..most {
+        let record = engine.advance(line);
+        if record.is_some() {
+            return record;
+        }
+    }
+    None
+}
