@@ -1,7 +1,7 @@
 -- How a program stops: what it says, and its exit status.
 -- Of the library: `decimal` is a number's digits.
 -- Assumes nothing.
-use Rattle.std.specs.Prelude.{◌≡◌, ℕ, ◌+◌, List, [], ◌∷◌, ◌++◌, Some, None, Ok, Err, Option, Result, codes, decimal, string_bytes}
+use Rattle.std.specs.Prelude.{◌≡◌, ℕ, List, Some, Ok, Err, Option, Result, string_bytes}
 use Rattle.report.specs.declared.stops.Stop.{Stop}
 use Rattle.report.specs.declared.stops.Stop.TheVariants.{Said, NoMemory, Failed}
 

@@ -1,21 +1,32 @@
 -- The two engines: the sequential machine, and the core over its unit.
 -- Assumes nothing.
-use Rattle.std.specs.Prelude.{◌≡◌, ℕ, Bool, List, Some, Option}
+use Rattle.std.specs.Prelude.{◌≡◌, ℕ, Bool, List, length, Some, Err, Option}
 use Rattle.machine.specs.declared.record.Record.{Record}
 use Rattle.machine.specs.declared.state.Machine.{Machine}
 use Rattle.machine.specs.Classes.{serves, every_class}
+use Rattle.machine.specs.States.{load_answer}
 use Rattle.machine.specs.Step.{step}
 use Rattle.units.specs.Meaning.{UnitModel}
 use Rattle.law.specs.declared.state.Running.{Running}
 use Rattle.law.specs.declared.state.Stopped.{Stopped}
 use Rattle.law.specs.Calls.{LineCall, CycleCall, StopCall, StartCall}
 use Rattle.scheduler.specs.Stops.{loaded}
+use Rattle.refusal.specs.declared.LoadFault.{LoadFault}
+use Rattle.report.specs.declared.stops.Stop.{Stop}
+use Rattle.report.specs.LoadLines.{fault_line}
+use Rattle.command.specs.Saying.{Says}
 use Rattle.engines.specs.Retirements.{AdvancesTo}
 
 -- one step of the machine, with every class served, under the line
 pub record MachineSteps (line : Bool) (m : Machine) (answer : Option Record) (m' : Machine) : Type 0 where
   pub answers : answer ≡ Some (step (serves every_class) line m).1
   pub state : m' ≡ (step (serves every_class) line m).0
+
+-- what is said of a program that is not loaded
+pub record Refuses (words : List ℕ) (pc vector : ℕ) (stop : Stop) : Type 0 where
+  pub fault : LoadFault
+  pub refused : load_answer words pc vector ≡ Err fault
+  pub says : Says (Some (fault_line fault (length words) pc vector)) stop
 
 module _ {A : Type 0} (m : UnitModel A) (sound : A → Type 0) where
   -- a cycle of the core under a line: the line is as asked, and then one cycle is made

@@ -1,21 +1,25 @@
 // What makes the retirements of a run, advance by advance: the sequential machine, or the core over its unit.
 #![tactic(auto)]
 
-ghost use Rattle.std.specs.Prelude.{◌≡◌, ◌≤◌, ℕ, Bool, List, Option, IfOk};
+ghost use Rattle.std.specs.Prelude.{◌≡◌, ◌≤◌, ℕ, Bool, List, Option, IfOk, IfErr};
 ghost use Rattle.machine.specs.declared.record.Record.{Record};
 ghost use Rattle.std.specs.Result.{result_map_both};
 ghost use Rattle.machine.specs.States.{load_answer, load_state};
 ghost use Rattle.machine.specs.declared.state.Machine.{Machine};
 ghost use Rattle.law.specs.Calls.{LineCall};
 ghost use Rattle.engines.specs.Retirements.{AdvancesTo};
-ghost use Rattle.engines.specs.Engines.{MachineSteps, LinedCycle, LinedCycles, Restarts};
+ghost use Rattle.engines.specs.Engines.{MachineSteps, LinedCycle, LinedCycles, Restarts, Refuses};
 ghost use Rattle.engines.specs.Waits.{machine_retires, core_retires};
 
+use command::exit::said;
 use machine::classes::Classes;
 use machine::record::Record;
 use machine::state::Machine;
 use refusal::LoadFault;
+use report::loads::RefusedLoad;
+use report::stops::Stop;
 use scheduler::running::Running;
+use std::alloc::Global;
 use units::unit::Unit;
 
 pub trait Engine {
@@ -106,6 +110,31 @@ impl<U: Unit + Drop> Engine for Running<U> {
     fn machine(&self) -> &Machine {
         Running::machine(self)
     }
+}
+
+// Begins the program, or says why it is refused.
+pub fn begin<E: Engine>(
+    heap: Global,
+    engine: E,
+    words: &[u32],
+    pc: u32,
+    vector: u32,
+) -> Result<E, Stop>
+    ensures state { IfOk result (λ e. E.Restarts words.now pc vector engine e) }
+    ensures refused { IfErr result (λ stop. Refuses words.now pc vector stop) }
+{
+    engine.restart(words, pc, vector).map_err(|fault| {
+        let words = words.len();
+        said(
+            heap,
+            RefusedLoad {
+                fault,
+                words,
+                pc,
+                vector,
+            },
+        )
+    })
 }
 
 // The next retirement under the line, or None if so many advances make none.
