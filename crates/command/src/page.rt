@@ -1,5 +1,6 @@
 // Standard output, written once a page has come together.
 ghost use Rattle.std.specs.Prelude.{◌≡◌, [], ℕ, ◌<◌, OnOk, string_bytes};
+ghost use Rattle.command.specs.Pages.{Written};
 
 use report::stops::Stop;
 use std::alloc::Global;
@@ -7,7 +8,7 @@ use std::{fmt, io};
 
 const PAGE: usize = 65536;
 
-// The library's BufWriter takes a fifth longer for a record's line: it is handed the line piece by piece.
+// The library's BufWriter makes a run that writes its records a fifth slower: it is handed each line piece by piece.
 #[derive(Drop)]
 pub struct Page {
     text: String,
@@ -22,7 +23,9 @@ impl Page {
         }
     }
 
-    pub fn write<T: fmt::Display + Drop>(&mut self, rt: &HostRuntime, item: T) -> Result<(), Stop> {
+    pub fn write<T: fmt::Display + Drop>(&mut self, rt: &HostRuntime, item: T) -> Result<(), Stop>
+        ensures { OnOk result (Written (T.output item) (string_bytes self.old.text) (string_bytes self.new.text)) }
+    {
         write!(self.text, "{item}")?;
         if self.text.len() >= PAGE {
             self.flush(rt)?;

@@ -28,7 +28,11 @@ struct Comparison<'a> {
 
 impl<'a> fmt::Display for Comparison<'a> {
     fn fmt<W: fmt::Write>(&self, f: &mut fmt::Formatter<W>) -> fmt::Result {
-        writeln!(f, "program `{}`, retirement {}:", self.program, self.retirement)?;
+        writeln!(
+            f,
+            "program `{}`, retirement {}:",
+            self.program, self.retirement
+        )?;
         write!(f, "expected {}\ngot      {}", self.expected, self.got)
     }
 }
@@ -78,11 +82,7 @@ fn end_line(heap: Global, machine: &Machine) -> Result<String, AllocError> {
     Ok(text)
 }
 
-fn follow<E: Engine>(
-    rt: &HostRuntime,
-    engine: &mut E,
-    recording: &Recording,
-) -> Result<(), Stop> {
+fn follow<E: Engine>(rt: &HostRuntime, engine: &mut E, recording: &Recording) -> Result<(), Stop> {
     let events = recording.events.as_slice();
     for (retirement, expected) in recording.records.iter().enumerate() {
         let record = next_record(engine, events, retirement as u64);

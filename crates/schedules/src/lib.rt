@@ -150,6 +150,7 @@ mod interrupts {
     ];
 
     const VECTOR: u32 = 0x18;
+
     const RETIREMENTS: u32 = 32;
 
     // The line is up during one retirement, and down during the others. How many interrupts there were.

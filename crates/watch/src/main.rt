@@ -114,7 +114,11 @@ impl<'a, U: Unit> Bench<'a, U> {
     fn step(&mut self, rt: &HostRuntime, number: usize) -> Result<(), Stop> {
         let attempt = self.give()?;
         let offer = self.unit.offer();
-        println!(rt; "step {number}: {attempt}; held{}; {}", self.held, Shown(offer))?;
+        println!(rt;
+            "step {number}: {attempt}; held{}; {}",
+            self.held,
+            Shown(offer)
+        )?;
         self.unit.step(true);
         // the accepted offer leaves
         if let Some(Offer { tag, .. }) = offer {
