@@ -26,14 +26,11 @@ mod instructions {
     }
 
     // The word, or the number of the refusal.
-    fn written(instruction: Instruction) -> u32 {
-        match write(instruction) {
-            Ok(word) => word,
-            Err(fault) => u32::from(fault.number()),
-        }
+    fn written(instruction: Instruction) -> Result<u32, u8> {
+        write(instruction).map_err(|fault| fault.number())
     }
 
-    fn divided(operation: Operation, a: u32, b: u32) -> u32 {
+    fn divided(operation: Operation, a: u32, b: u32) -> Option<u32> {
         let instruction = Instruction {
             operation,
             rd: 3,
@@ -42,8 +39,8 @@ mod instructions {
             immediate: 0,
         };
         match outcome(instruction, 0, a, b) {
-            Some(Outcome::Done { value, .. }) => value,
-            _ => 1,
+            Some(Outcome::Done { value, .. }) => Some(value),
+            _ => None,
         }
     }
 
@@ -56,7 +53,7 @@ mod instructions {
                 written(addi(0, 2048)),
                 written(addi(1, 2048)),
             ],
-            [0x0050_0093, 0x7ff0_0093, 21, 20]
+            [Ok(0x0050_0093), Ok(0x7ff0_0093), Err(21), Err(20)]
         );
     }
 
@@ -71,7 +68,14 @@ mod instructions {
                 divided(Operation::Div, 0x8000_0000, 0xffff_ffff),
                 divided(Operation::Rem, 0x8000_0000, 0xffff_ffff),
             ],
-            [0xffff_ffff, 7, 0xffff_ffff, 0xffff_fff9, 0x8000_0000, 0]
+            [
+                Some(0xffff_ffff),
+                Some(7),
+                Some(0xffff_ffff),
+                Some(0xffff_fff9),
+                Some(0x8000_0000),
+                Some(0),
+            ]
         );
     }
 }
@@ -87,12 +91,11 @@ mod machine_steps {
     // ADDI x1, x0, 5; ADDI x2, x0, 7; MUL x3, x1, x2
     const PRODUCT: [u32; 3] = [0x0050_0093, 0x0070_0113, 0x0220_81b3];
 
-    // 0 for a load that is taken.
-    fn load_refusal(words: &[u32], pc: u32, vector: u32) -> u8 {
-        match Machine::new().load(words, pc, vector) {
-            Ok(()) => 0,
-            Err(fault) => fault.number(),
-        }
+    // The number of the refusal, if any.
+    fn loaded(words: &[u32], pc: u32, vector: u32) -> Result<(), u8> {
+        Machine::new()
+            .load(words, pc, vector)
+            .map_err(|fault| fault.number())
     }
 
     // The program, loaded to start at pc.
@@ -149,12 +152,12 @@ mod machine_steps {
     fn load_refuses(rt: HostRuntime) {
         assert_eq!(rt;
             [
-                load_refusal(&[0; 1025], 2, 0),
-                load_refusal(&PRODUCT, 2, 0),
-                load_refusal(&PRODUCT, 0, 6),
-                load_refusal(&[0; 1024], 0, 0),
+                loaded(&[0; 1025], 2, 0),
+                loaded(&PRODUCT, 2, 0),
+                loaded(&PRODUCT, 0, 6),
+                loaded(&[0; 1024], 0, 0),
             ],
-            [1, 2, 2, 0]
+            [Err(1), Err(2), Err(2), Ok(())]
         );
     }
 
@@ -234,7 +237,7 @@ mod piles_of_units {
     };
 
     // After how many accepted steps the job is offered, and its value.
-    fn wait<U: Unit>(unit: &mut U, job: Job) -> [u32; 2] {
+    fn wait<U: Unit>(unit: &mut U, job: Job) -> Option<(u32, u32)> {
         unit.clear();
         let _ = unit.take(job);
         for steps in 0..200 {
@@ -245,11 +248,11 @@ mod piles_of_units {
                 },
             ) = unit.offer()
             {
-                return [steps, value];
+                return Some((steps, value));
             }
             unit.step(true);
         }
-        [200, 0]
+        None
     }
 
     #[test]
@@ -268,7 +271,7 @@ mod piles_of_units {
         };
         assert_eq!(rt;
             [wait(&mut unit, DIVISION), wait(&mut unit, product)],
-            [[32, 0xffff_ffff], [3, 0xffff_ffeb]]
+            [Some((32, 0xffff_ffff)), Some((3, 0xffff_ffeb))]
         );
     }
 }

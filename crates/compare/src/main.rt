@@ -3,33 +3,43 @@
 
 mod recording;
 mod replay;
-mod subject;
 
 use crate::recording::{Recording, parse};
-use crate::replay::{replay_core, replay_machine};
-use anyhow::anyhow;
+use crate::replay::replay;
+use command::exit::{exit_code, said};
 use divider::Divider;
-use join::{Join, pile};
+use join::Join;
+use machine::state::Machine;
 use pipelines::multiplier::Multiplier;
 use pipelines::plain::Plain;
-use std::io;
+use report::stops::Stop;
+use scheduler::stopped::Stopped;
 use std::io::Read;
 use std::process::ExitCode;
+use units::unit::Unit;
+
+// A core that has no program yet.
+fn replay_core<U: Unit + Drop>(
+    rt: &HostRuntime,
+    name: &str,
+    unit: U,
+    recordings: &[Recording],
+) -> Result<(), Stop> {
+    replay(rt, name, Stopped::new(unit).start(), recordings)
+}
 
 // The piles, each joined another way; the second has two units for the plain classes.
-fn replay_cores(rt: &HostRuntime, recordings: &[Recording]) -> anyhow::Result<()> {
+fn replay_cores(rt: &HostRuntime, recordings: &[Recording]) -> Result<(), Stop> {
     replay_core(
         rt,
         "core over (plain, multiplier), divider",
-        pile(Plain::new(), Multiplier::new(), Divider::new()),
+        piles::all(),
         recordings,
     )?;
-    let plain = Join::new(Plain::new(), Plain::new());
-    let slow = Join::new(Multiplier::new(), Divider::new());
     replay_core(
         rt,
         "core over (plain, plain), (multiplier, divider)",
-        Join::new(plain, slow),
+        piles::deep(),
         recordings,
     )?;
     let quick = Join::new(Multiplier::new(), Plain::new());
@@ -41,23 +51,19 @@ fn replay_cores(rt: &HostRuntime, recordings: &[Recording]) -> anyhow::Result<()
     )
 }
 
-fn run(rt: &HostRuntime) -> anyhow::Result<()> {
+fn run(rt: &HostRuntime) -> Result<(), Stop> {
     let mut text = String::new(rt.alloc());
     rt.stdin().read_to_string(&mut text)?;
-    let recordings = match parse(rt.alloc(), text.as_str()) {
-        Ok(recordings) => recordings,
-        Err(line) => return Err(anyhow!(format!(in rt.alloc(); "line {line} cannot be taken")?)),
-    };
-    replay_machine(rt, recordings.as_slice())?;
+    let recordings = parse(rt.alloc(), text.as_str()).map_err(|fault| said(rt.alloc(), fault))?;
+    replay(
+        rt,
+        "sequential machine",
+        Machine::new(),
+        recordings.as_slice(),
+    )?;
     replay_cores(rt, recordings.as_slice())
 }
 
 fn main(rt: HostRuntime) -> ExitCode {
-    match run(&rt) {
-        Ok(()) => ExitCode::SUCCESS,
-        Err(fault) => {
-            let _ = eprintln!(rt; "compare: {fault}");
-            ExitCode::FAILURE
-        }
-    }
+    exit_code(&rt, "compare", run(&rt))
 }

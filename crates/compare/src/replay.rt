@@ -1,60 +1,71 @@
 // A replay: each line that a recording has, against the same line made of ours.
 ghost use Rattle.std.specs.Prelude.{◌≡◌, OnOk};
+ghost use Rattle.options.specs.Schedule.{line_stands};
 
 use crate::recording::Recording;
-use crate::subject::Subject;
-use anyhow::anyhow;
+use command::exit::said;
+use engines::{Engine, next_retirement};
+use machine::record::Record;
 use machine::state::Machine;
-use options::schedule::line_stands;
+use options::schedule::{LineEvent, line_stands};
 use report::hex::Hex8;
 use report::records::RecordLine;
-use scheduler::stopped::Stopped;
+use report::stops::Stop;
 use std::alloc::{AllocError, Global};
-use units::unit::Unit;
+use std::fmt;
 
-// The line that is expected, and the one that came instead, for people.
-fn tell_difference(
-    rt: &HostRuntime,
-    name: &str,
+// The longest wait over the deepest of the piles, whose longest stay is 132.
+const LONGEST_WAIT: u64 = 265;
+
+// The line that is expected, and the one that came instead, shown for people.
+#[derive(Clone, Copy)]
+struct Comparison<'a> {
+    program: &'a str,
     retirement: usize,
-    expected: &str,
-    got: &str,
-) -> anyhow::Result<()> {
-    eprintln!(rt; "program `{name}`, retirement {retirement}:")?;
-    eprintln!(rt; "expected {expected}\ngot      {got}")?;
-    Ok(())
+    expected: &'a str,
+    got: &'a str,
 }
 
-fn check_line(
-    rt: &HostRuntime,
-    name: &str,
-    retirement: usize,
-    expected: &str,
-    got: &str,
-) -> anyhow::Result<()>
-    ensures { OnOk result (expected.now ≡ got.now) }
-{
-    if expected == got {
-        return Ok(());
+impl<'a> fmt::Display for Comparison<'a> {
+    fn fmt<W: fmt::Write>(&self, f: &mut fmt::Formatter<W>) -> fmt::Result {
+        writeln!(
+            f,
+            "program `{}`, retirement {}:",
+            self.program, self.retirement
+        )?;
+        write!(f, "expected {}\ngot      {}", self.expected, self.got)
     }
-    tell_difference(rt, name, retirement, expected, got)?;
-    Err(anyhow!("a run differs"))
 }
 
-fn record_line<S: Subject>(
-    heap: Global,
-    subject: &mut S,
-    line: bool,
-) -> Result<String, AllocError> {
-    match subject.retirement(line) {
-        Some(record) => format!(in heap; "{}", RecordLine(record)),
+impl<'a> Comparison<'a> {
+    fn check(&self, rt: &HostRuntime) -> Result<(), Stop>
+        ensures { OnOk result (self.now.expected.now ≡ self.now.got.now) }
+    {
+        if self.expected == self.got {
+            return Ok(());
+        }
+        eprintln!(rt; "{self}")?;
+        Err(said(rt.alloc(), "a run differs"))
+    }
+}
+
+// The next retirement, with the line as the events have set it by then; None if there is none in the longest wait.
+fn next_record<E: Engine>(engine: &mut E, events: &[LineEvent], retired: u64) -> Option<Record>
+    ensures { E.Retires 265 (line_stands events.now retired) engine.old result engine.new }
+{
+    let line = line_stands(events, retired);
+    next_retirement(engine, line, LONGEST_WAIT)
+}
+
+fn record_line(heap: Global, record: Option<Record>) -> Result<String, AllocError> {
+    match record {
+        Some(record) => RecordLine(record).to_string(heap),
         None => String::from_str(heap, "no retirement in the longest wait"),
     }
 }
 
 // pc, mepc, mcause, MIE, MPIE, then x1 to x31.
-fn end_line<S: Subject>(heap: Global, subject: &S) -> anyhow::Result<String> {
-    let machine = subject.machine();
+fn end_line(heap: Global, machine: &Machine) -> Result<String, AllocError> {
     let trap = machine.trap_state();
     let mut text = String::new(heap);
     write!(
@@ -65,68 +76,55 @@ fn end_line<S: Subject>(heap: Global, subject: &S) -> anyhow::Result<String> {
         Hex8(trap.mcause)
     )?;
     write!(text, " {} {}", u8::from(trap.mie), u8::from(trap.mpie))?;
-    for register in 1u8..32 {
-        write!(text, " {}", Hex8(machine.register(register).unwrap_or(0)))?;
+    for value in machine.registers().iter().skip(1) {
+        write!(text, " {}", Hex8(*value))?;
     }
     Ok(text)
 }
 
-fn follow<S: Subject>(
-    rt: &HostRuntime,
-    subject: &mut S,
-    recording: &Recording,
-) -> anyhow::Result<()> {
-    let mut retired = 0usize;
-    for expected in recording.records.iter() {
-        let line = line_stands(recording.events.as_slice(), retired as u64);
-        let got = record_line(rt.alloc(), subject, line)?;
-        check_line(rt, recording.name, retired, expected, got.as_str())?;
-        retired = retired.saturating_add(1);
+fn follow<E: Engine>(rt: &HostRuntime, engine: &mut E, recording: &Recording) -> Result<(), Stop> {
+    let events = recording.events.as_slice();
+    for (retirement, expected) in recording.records.iter().enumerate() {
+        let record = next_record(engine, events, retirement as u64);
+        let got = record_line(rt.alloc(), record)?;
+        let comparison = Comparison {
+            program: recording.name,
+            retirement,
+            expected,
+            got: got.as_str(),
+        };
+        comparison.check(rt)?;
     }
-    let end = end_line(rt.alloc(), subject)?;
-    check_line(rt, recording.name, retired, recording.end, end.as_str())
+    let end = end_line(rt.alloc(), engine.machine())?;
+    let comparison = Comparison {
+        program: recording.name,
+        retirement: recording.records.len(),
+        expected: recording.end,
+        got: end.as_str(),
+    };
+    comparison.check(rt)
 }
 
-fn report_agreement(rt: &HostRuntime, name: &str, recordings: &[Recording]) -> anyhow::Result<()> {
-    let mut records = 0usize;
+// One engine takes all the programs.
+pub(crate) fn replay<E: Engine + Drop>(
+    rt: &HostRuntime,
+    name: &str,
+    mut engine: E,
+    recordings: &[Recording],
+) -> Result<(), Stop> {
     for recording in recordings {
-        records = records.saturating_add(recording.records.len());
+        let words = recording.words.as_slice();
+        engine = engine
+            .restart(words, recording.pc, recording.vector)
+            .map_err(|_fault| said(rt.alloc(), "a program is not loaded"))?;
+        follow(rt, &mut engine, recording)?;
     }
+    let records = recordings.iter().fold(0usize, |sum, recording| {
+        sum.saturating_add(recording.records.len())
+    });
     println!(rt;
         "{name}: {} programs, {records} records agree",
         recordings.len()
     )?;
     Ok(())
-}
-
-pub(crate) fn replay_machine(rt: &HostRuntime, recordings: &[Recording]) -> anyhow::Result<()> {
-    let mut machine = Machine::new();
-    for recording in recordings {
-        let words = recording.words.as_slice();
-        if machine.load(words, recording.pc, recording.vector).is_err() {
-            return Err(anyhow!("a program is not loaded"));
-        }
-        follow(rt, &mut machine, recording)?;
-    }
-    report_agreement(rt, "sequential machine", recordings)
-}
-
-// One core takes all the programs, stopped and started between them.
-pub(crate) fn replay_core<U: Unit + Drop>(
-    rt: &HostRuntime,
-    name: &str,
-    unit: U,
-    recordings: &[Recording],
-) -> anyhow::Result<()> {
-    let mut stopped = Stopped::new(unit);
-    for recording in recordings {
-        let words = recording.words.as_slice();
-        if stopped.load(words, recording.pc, recording.vector).is_err() {
-            return Err(anyhow!("a program is not loaded"));
-        }
-        let mut running = stopped.start();
-        follow(rt, &mut running, recording)?;
-        stopped = running.stop();
-    }
-    report_agreement(rt, name, recordings)
 }

@@ -1,29 +1,37 @@
 // A bench passes or fails a netlist by its retirement records.
-use machine::record::Record;
+use machine::record::{Record, Retirement};
 use pipelines::plain::Plain;
 use report::records::RecordLine;
 use scheduler::stopped::Stopped;
 use std::io;
 
-// What the netlist reports of the program below, in the order of the record line. Its difference is wrong.
-const NETLIST: [[u32; 6]; 3] = [
-    [0x00, 0x0050_0093, 0, 1, 5, 0x04],
-    [0x04, 0x0070_0113, 0, 2, 7, 0x08],
-    [0x08, 0x4020_81b3, 0, 3, 2, 0x0c],
+// What the netlist reports of the program below. Its difference is wrong.
+const NETLIST: [Record; 3] = [
+    Record {
+        pc: 0x00,
+        word: 0x0050_0093,
+        outcome: Retirement::Plain,
+        destination: 1,
+        value: 5,
+        next: 0x04,
+    },
+    Record {
+        pc: 0x04,
+        word: 0x0070_0113,
+        outcome: Retirement::Plain,
+        destination: 2,
+        value: 7,
+        next: 0x08,
+    },
+    Record {
+        pc: 0x08,
+        word: 0x4020_81b3,
+        outcome: Retirement::Plain,
+        destination: 3,
+        value: 2,
+        next: 0x0c,
+    },
 ];
-
-fn fields(record: Record) -> [u32; 6] {
-    let outcome = u32::from(record.outcome.number());
-    let destination = u32::from(record.destination);
-    [
-        record.pc,
-        record.word,
-        outcome,
-        destination,
-        record.value,
-        record.next,
-    ]
-}
 
 pub(crate) fn show(rt: &HostRuntime) -> io::Result<()> {
     let mut core = Stopped::new(Plain::new());
@@ -37,7 +45,7 @@ pub(crate) fn show(rt: &HostRuntime) -> io::Result<()> {
         let Ok(record) = core.retire() else {
             return println!(rt; "bench: no record");
         };
-        let passes = fields(record) == reported;
+        let passes = record == reported;
         println!(rt; "bench: {} {passes}", RecordLine(record))?;
     }
     Ok(())

@@ -25,5 +25,5 @@ pub data Told : Call → Answer → Event → Type 0 where
   dropped : Told Drop Dropped drop
 
 -- the law holds of every past that the event extends
-abbrev pub Answered : {A : Type 0} → UnitModel A → (A → Type 0) → Running A → Call → Answer → Running A → Type 0
-Answered m sound k call answer k' = (e : Event) × (Told call answer e × Extends m sound k e k')
+abbrev pub Answered : {A : Type 0} → UnitModel A → Running A → Call → Answer → Running A → Type 0
+Answered m k call answer k' = (e : Event) × (Told call answer e × Extends m k e k')

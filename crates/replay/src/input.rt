@@ -1,14 +1,15 @@
 // Standard input, line by line: the program's words, and then the calls.
+use command::exit::said;
 use past::calls::{Call, Line, parse_call, parse_first};
 use report::stops::Stop;
-use std::io;
 use std::io::{BufRead, BufReader, Split, Stdin};
+use std::{fmt, io};
 
 #[derive(Drop)]
 pub struct Input {
-    lines: Split<BufReader<Stdin>>,
+    pub(crate) lines: Split<BufReader<Stdin>>,
     // of the line that was read last
-    number: u64,
+    pub(crate) number: u64,
 }
 
 impl Input {
@@ -19,49 +20,31 @@ impl Input {
         })
     }
 
-    fn next_line(&mut self) -> io::Result<Option<Vec<u8>>> {
-        self.number = self.number.saturating_add(1);
-        self.lines.next().transpose()
-    }
-
     // The words, and the call that ends them, if one does.
     pub(crate) fn words(&mut self, rt: &HostRuntime) -> Result<(Vec<u32>, Option<Call>), Stop> {
         let mut words = Vec::new(rt.alloc());
-        for _ in 0..u64::MAX {
-            let Some(line) = self.next_line()? else {
-                break;
-            };
-            match parse_first(line.as_slice()) {
+        for line in &mut self.lines {
+            self.number = self.number.saturating_add(1);
+            match parse_first(line?.as_slice()) {
                 Ok(None) => {}
                 Ok(Some(Line::Word(word))) => words.push(word)?,
                 Ok(Some(Line::Call(call))) => return Ok((words, Some(call))),
-                Err(fault) => {
-                    return Err(Stop::Said(format!(in rt.alloc();
-                        "line {}: {fault}",
-                        self.number
-                    )?));
-                }
+                Err(fault) => return Err(refused(rt, self.number, fault)),
             }
         }
         Ok((words, None))
     }
+}
 
-    pub(crate) fn next_call(&mut self, rt: &HostRuntime) -> Result<Option<Call>, Stop> {
-        for _ in 0..u64::MAX {
-            let Some(line) = self.next_line()? else {
-                break;
-            };
-            match parse_call(line.as_slice()) {
-                Ok(None) => {}
-                Ok(call) => return Ok(call),
-                Err(fault) => {
-                    return Err(Stop::Said(format!(in rt.alloc();
-                        "line {}: {fault}",
-                        self.number
-                    )?));
-                }
-            }
-        }
-        Ok(None)
-    }
+fn refused<F: fmt::Display + Drop>(rt: &HostRuntime, number: u64, fault: F) -> Stop {
+    said(rt.alloc(), format_args!("line {number}: {fault}"))
+}
+
+// None for a line with no call on it.
+pub(crate) fn call_on(
+    rt: &HostRuntime,
+    number: u64,
+    line: io::Result<Vec<u8>>,
+) -> Result<Option<Call>, Stop> {
+    parse_call(line?.as_slice()).map_err(|fault| refused(rt, number, fault))
 }

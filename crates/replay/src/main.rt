@@ -6,36 +6,27 @@ ghost use Rattle.replay.specs.Told.{Answered};
 mod input;
 mod settings;
 
-use crate::input::Input;
+use crate::input::{Input, call_on};
 use crate::settings::{Kind, Settings, settings_of};
+use command::exit::exit_code;
+use command::page::Page;
+use command::registers::RegisterLines;
 use divider::Divider;
-use join::{Join, pile};
+use engines::begin;
 use past::answers::Answer;
 use past::calls::Call;
 use pipelines::multiplier::Multiplier;
 use pipelines::plain::Plain;
 use report::hex::Hex8;
-use report::loads::RefusedLoad;
 use report::stops::Stop;
 use scheduler::running::Running;
 use scheduler::stopped::Stopped;
-use std::io;
-use std::io::Write;
 use std::process::ExitCode;
 use units::unit::Unit;
 
-// Output is written once this much has come together.
-const PAGE: usize = 65536;
-
-fn flush(rt: &HostRuntime, page: &mut String) -> io::Result<()> {
-    rt.stdout().write_all(page.as_bytes())?;
-    page.clear();
-    Ok(())
-}
-
 // The answer is that of the call, and the law holds of the past that it extends.
 fn answer<U: Unit>(core: &mut Running<U>, call: Call) -> Answer
-    ensures { Answered U.Unit.means U.Unit.sound core.old.state call result core.new.state }
+    ensures { Answered U.Unit.means core.old.state call result core.new.state }
 {
     match call {
         Call::Issue => Answer::Issue(core.issue()),
@@ -67,66 +58,57 @@ fn answer_all<U: Unit>(
     core: &mut Running<U>,
     first: Option<Call>,
     input: &mut Input,
-    page: &mut String,
+    page: &mut Page,
 ) -> Result<(), Stop> {
-    let mut next = first;
-    // no input is longer
-    for _ in 0..u64::MAX {
-        let Some(call) = next else {
-            break;
-        };
-        writeln!(page, "{}", answer(core, call))?;
-        if page.len() >= PAGE {
-            flush(rt, page)?;
+    let Some(first) = first else {
+        return Ok(());
+    };
+    page.write(rt, format_args!("{}\n", answer(core, first)))?;
+    for line in &mut input.lines {
+        input.number = input.number.saturating_add(1);
+        if let Some(call) = call_on(rt, input.number, line)? {
+            page.write(rt, format_args!("{}\n", answer(core, call)))?;
         }
-        next = input.next_call(rt)?;
     }
     Ok(())
 }
 
-fn write_state<U: Unit>(core: &Running<U>, page: &mut String) -> Result<(), Stop> {
+fn write_state<U: Unit>(rt: &HostRuntime, core: &Running<U>, page: &mut Page) -> Result<(), Stop> {
     let machine = core.machine();
     let trap = machine.trap_state();
-    writeln!(
-        page,
-        "pc {}\nmepc {}\nmcause {}\nmie {}\nmpie {}\nline {}",
-        Hex8(machine.pc()),
-        Hex8(trap.mepc),
-        Hex8(trap.mcause),
-        u8::from(trap.mie),
-        u8::from(trap.mpie),
-        u8::from(core.line())
+    page.write(
+        rt,
+        format_args!(
+            "pc {}\nmepc {}\nmcause {}\nmie {}\nmpie {}\nline {}\n",
+            Hex8(machine.pc()),
+            Hex8(trap.mepc),
+            Hex8(trap.mcause),
+            u8::from(trap.mie),
+            u8::from(trap.mpie),
+            u8::from(core.line())
+        ),
     )?;
-    for number in 1u8..32 {
-        let value = machine.register(number).unwrap_or(0);
-        if value != 0 {
-            writeln!(page, "x{number} {}", Hex8(value))?;
-        }
-    }
-    Ok(())
+    page.write(rt, RegisterLines { machine, width: 0 })
 }
 
 fn replay<U: Unit + Drop>(rt: &HostRuntime, settings: Settings, unit: U) -> Result<(), Stop> {
     let mut input = Input::new(rt)?;
     let (words, first) = input.words(rt)?;
-    let mut stopped = Stopped::new(unit);
-    if let Err(fault) = stopped.load(words.as_slice(), settings.pc, settings.vector) {
-        let refused = RefusedLoad {
-            fault,
-            words: words.len(),
-            pc: settings.pc,
-            vector: settings.vector,
-        };
-        return Err(Stop::Said(format!(in rt.alloc(); "{refused}")?));
-    }
-    let mut core = stopped.start();
-    let mut page = String::new(rt.alloc());
+    let core = Stopped::new(unit).start();
+    let mut core = begin(
+        rt.alloc(),
+        core,
+        words.as_slice(),
+        settings.pc,
+        settings.vector,
+    )?;
+    let mut page = Page::new(rt.alloc());
     let answered = answer_all(rt, &mut core, first, &mut input, &mut page);
     if answered.is_ok() {
-        write_state(&core, &mut page)?;
+        write_state(rt, &core, &mut page)?;
     }
     // a bad call does not take back the answers before it
-    flush(rt, &mut page)?;
+    page.flush(rt)?;
     answered
 }
 
@@ -136,25 +118,11 @@ fn run(rt: &HostRuntime) -> Result<(), Stop> {
         Kind::Plain => replay(rt, settings, Plain::new()),
         Kind::Multiplier => replay(rt, settings, Multiplier::new()),
         Kind::Divider => replay(rt, settings, Divider::new()),
-        Kind::All => replay(
-            rt,
-            settings,
-            pile(Plain::new(), Multiplier::new(), Divider::new()),
-        ),
-        Kind::Deep => {
-            let plain = Join::new(Plain::new(), Plain::new());
-            let slow = Join::new(Multiplier::new(), Divider::new());
-            replay(rt, settings, Join::new(plain, slow))
-        }
+        Kind::All => replay(rt, settings, piles::all()),
+        Kind::Deep => replay(rt, settings, piles::deep()),
     }
 }
 
 fn main(rt: HostRuntime) -> ExitCode {
-    match run(&rt) {
-        Ok(()) => ExitCode::SUCCESS,
-        Err(fault) => {
-            let _ = eprintln!(rt; "replay: {fault}");
-            ExitCode::FAILURE
-        }
-    }
+    exit_code(&rt, "replay", run(&rt))
 }

@@ -2,10 +2,12 @@
 ghost use Rattle.std.specs.Prelude.{◌≡◌};
 ghost use Rattle.replay.specs.declared.settings.SettingFault.TheVariants.{BadNumber};
 
+use command::argument::ArgumentLine;
+use command::exit::said;
 use console::numbers::NumberFault;
 use options::addresses::parse_address;
 use report::stops::Stop;
-use std::alloc::AllocError;
+use std::str::FromStr;
 use std::{env, fmt};
 
 // The unit under the core.
@@ -33,7 +35,7 @@ enum Argument {
 }
 
 #[derive(Clone, Copy)]
-enum SettingFault {
+pub enum SettingFault {
     Unknown,
     NoValue,
     NoUnit,
@@ -59,26 +61,30 @@ impl From<NumberFault> for SettingFault {
     }
 }
 
-impl Argument {
-    fn named(text: &str) -> Option<Argument> {
+impl FromStr for Argument {
+    type Err = SettingFault;
+
+    fn from_str(text: &str) -> Result<Argument, SettingFault> {
         match text {
-            "--pc" => Some(Argument::Pc),
-            "--vector" => Some(Argument::Vector),
-            "--unit" => Some(Argument::Unit),
-            _ => None,
+            "--pc" => Ok(Argument::Pc),
+            "--vector" => Ok(Argument::Vector),
+            "--unit" => Ok(Argument::Unit),
+            _ => Err(SettingFault::Unknown),
         }
     }
 }
 
-impl Kind {
-    fn named(text: &str) -> Option<Kind> {
+impl FromStr for Kind {
+    type Err = SettingFault;
+
+    fn from_str(text: &str) -> Result<Kind, SettingFault> {
         match text {
-            "plain" => Some(Kind::Plain),
-            "multiplier" => Some(Kind::Multiplier),
-            "divider" => Some(Kind::Divider),
-            "all" => Some(Kind::All),
-            "deep" => Some(Kind::Deep),
-            _ => None,
+            "plain" => Ok(Kind::Plain),
+            "multiplier" => Ok(Kind::Multiplier),
+            "divider" => Ok(Kind::Divider),
+            "all" => Ok(Kind::All),
+            "deep" => Ok(Kind::Deep),
+            _ => Err(SettingFault::NoUnit),
         }
     }
 }
@@ -88,10 +94,7 @@ impl Settings {
         match argument {
             Argument::Pc => self.pc = parse_address(text.as_bytes())?,
             Argument::Vector => self.vector = parse_address(text.as_bytes())?,
-            Argument::Unit => match Kind::named(text) {
-                Some(kind) => self.kind = kind,
-                None => return Err(SettingFault::NoUnit),
-            },
+            Argument::Unit => self.kind = text.parse()?,
         }
         Ok(())
     }
@@ -103,49 +106,37 @@ impl Settings {
         text: &str,
     ) -> Result<Option<Argument>, SettingFault> {
         match waiting {
-            Some(argument) => {
-                self.set(argument, text)?;
-                Ok(None)
-            }
-            None => match Argument::named(text) {
-                Some(argument) => Ok(Some(argument)),
-                None => Err(SettingFault::Unknown),
-            },
+            Some(argument) => self.set(argument, text).map(|()| None),
+            None => text.parse().map(Some),
         }
     }
 }
 
-fn argument_line(
-    rt: &HostRuntime,
-    texts: &[String],
-    place: usize,
-    fault: SettingFault,
-) -> Result<String, AllocError> {
-    match texts.get(place) {
-        Some(text) => format!(in rt.alloc(); "argument {place}, `{text}`: {fault}"),
-        None => format!(in rt.alloc(); "argument {place}: {fault}"),
-    }
-}
-
-pub(crate) fn settings_of(rt: &HostRuntime) -> Result<Settings, Stop> {
+// Or the place of the argument that is refused, counted from 1, and why.
+fn parse_settings(texts: &[String]) -> Result<Settings, (usize, SettingFault)> {
     let mut settings = Settings {
         pc: 0,
         vector: 0,
         kind: Kind::All,
     };
-    // the program's own name has place 0
-    let texts = env::args(rt)?.collect::<Vec<String>>(rt.alloc())?;
-    let texts = texts.as_slice();
     let mut waiting = None;
-    for (place, text) in texts.iter().enumerate().skip(1) {
-        match settings.take(waiting, text.as_str()) {
-            Ok(next) => waiting = next,
-            Err(fault) => return Err(Stop::Said(argument_line(rt, texts, place, fault)?)),
-        }
+    for (i, text) in texts.iter().enumerate() {
+        waiting = settings
+            .take(waiting, text.as_str())
+            .map_err(|fault| (i + 1, fault))?;
     }
-    if waiting.is_some() {
-        let last = texts.len().saturating_sub(1);
-        return Err(Stop::Said(argument_line(rt, texts, last, SettingFault::NoValue)?));
+    match waiting {
+        None => Ok(settings),
+        Some(_) => Err((texts.len(), SettingFault::NoValue)),
     }
-    Ok(settings)
+}
+
+pub(crate) fn settings_of(rt: &HostRuntime) -> Result<Settings, Stop> {
+    // the first is the program's own name
+    let texts: Vec<String> = env::args(rt)?.skip(1).collect(rt.alloc())?;
+    let texts = texts.as_slice();
+    parse_settings(texts).map_err(|(place, fault)| said(
+        rt.alloc(),
+        ArgumentLine::new(texts, place, fault),
+    ))
 }

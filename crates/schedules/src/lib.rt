@@ -4,9 +4,9 @@
 
 #[cfg(test)]
 mod cores {
-    use refusal::LoadFault;
     use scheduler::running::Running;
     use scheduler::stopped::Stopped;
+    use std::test::Fail;
     use units::unit::Unit;
 
     // A core at address 0 of the words, with the handler at the vector.
@@ -14,9 +14,11 @@ mod cores {
         unit: U,
         words: &[u32],
         vector: u32,
-    ) -> Result<Running<U>, LoadFault> {
+    ) -> Result<Running<U>, Fail> {
         let mut stopped = Stopped::new(unit);
-        stopped.load(words, 0, vector)?;
+        stopped
+            .load(words, 0, vector)
+            .map_err(|fault| Fail::new(format_args!("load refused: {fault}")))?;
         Ok(stopped.start())
     }
 }
@@ -25,31 +27,32 @@ mod cores {
 mod refusals {
     use crate::cores::started;
     use pipelines::plain::Plain;
+    use std::test::Fail;
     use units::unit::Unit;
 
     // How many words the core issues, and the number of the refusal after them.
-    fn issued(words: &[u32]) -> Option<(u8, u8)> {
-        let Ok(mut core) = started(Plain::new(), words, 0) else {
-            return None;
-        };
+    fn issued(words: &[u32]) -> Result<(u8, u8), Fail> {
+        let mut core = started(Plain::new(), words, 0)?;
         for tag in 0u8..20 {
             match core.issue() {
                 Ok(answer) if answer == tag => {}
-                Ok(_) => return None,
-                Err(fault) => return Some((tag, fault.number())),
+                Ok(_) => return Err(Fail::new("another tag")),
+                Err(fault) => return Ok((tag, fault.number())),
             }
         }
-        None
+        Err(Fail::new("no refusal"))
     }
 
     #[test]
-    fn the_ninth_addi_finds_no_station(rt: HostRuntime) {
-        assert_eq!(rt; issued(&[0x0050_0093; 9]), Some((8, 11)));
+    fn the_ninth_addi_finds_no_station(rt: HostRuntime) -> Result<(), Fail> {
+        assert_eq!(rt; issued(&[0x0050_0093; 9])?, (8, 11));
+        Ok(())
     }
 
     #[test]
-    fn the_seventeenth_ecall_finds_the_buffer_full(rt: HostRuntime) {
-        assert_eq!(rt; issued(&[0x0000_0073; 17]), Some((16, 10)));
+    fn the_seventeenth_ecall_finds_the_buffer_full(rt: HostRuntime) -> Result<(), Fail> {
+        assert_eq!(rt; issued(&[0x0000_0073; 17])?, (16, 10));
+        Ok(())
     }
 }
 
@@ -57,72 +60,71 @@ mod refusals {
 mod budgets {
     use crate::cores::started;
     use divider::Divider;
-    use join::{Join, pile};
     use pipelines::multiplier::Multiplier;
     use pipelines::plain::Plain;
+    use std::test::Fail;
     use units::unit::Unit;
 
     // ADDI x1, x1, 1; MUL x2, x1, x1; DIV x3, x2, x1; BNE x1, x0, -12
     const LOOP: [u32; 4] = [0x0010_8093, 0x0210_8133, 0x0211_41b3, 0xfe00_9ae3];
 
     // Cycles and retirements of a run from the start.
-    fn run<U: Unit + Drop>(unit: U, words: &[u32], wanted: u64, budget: u64) -> (u64, u64) {
-        let Ok(mut core) = started(unit, words, 0) else {
-            return (0, 0);
-        };
-        let ran = core.run(wanted, budget);
-        (ran.cycles, ran.retirements)
+    fn run<U: Unit + Drop>(
+        unit: U,
+        words: &[u32],
+        wanted: u64,
+        budget: u64,
+    ) -> Result<(u64, u64), Fail> {
+        let ran = started(unit, words, 0)?.run(wanted, budget);
+        Ok((ran.cycles, ran.retirements))
     }
 
     // Whether 20 times the longest wait is budget enough for 20 retirements.
-    fn suffices<U: Unit + Drop>(unit: U, longest: u64) -> bool {
+    fn suffices<U: Unit + Drop>(unit: U, longest: u64) -> Result<bool, Fail> {
         let budget = longest.saturating_mul(20);
-        let (cycles, retirements) = run(unit, &LOOP, 20, budget);
-        retirements == 20 && cycles <= budget
+        let (cycles, retirements) = run(unit, &LOOP, 20, budget)?;
+        Ok(retirements == 20 && cycles <= budget)
     }
 
     // What the unit does not serve traps.
     #[test]
-    fn twenty_longest_waits(rt: HostRuntime) {
-        assert!(rt; suffices(Plain::new(), 5));
-        assert!(rt; suffices(Multiplier::new(), 15));
-        assert!(rt; suffices(Divider::new(), 67));
-        assert!(rt; suffices(pile(Plain::new(), Multiplier::new(), Divider::new()), 133));
-        let plain = Join::new(Plain::new(), Plain::new());
-        let slow = Join::new(Multiplier::new(), Divider::new());
-        assert!(rt; suffices(Join::new(plain, slow), 265));
+    fn twenty_longest_waits(rt: HostRuntime) -> Result<(), Fail> {
+        assert!(rt; suffices(Plain::new(), 5)?);
+        assert!(rt; suffices(Multiplier::new(), 15)?);
+        assert!(rt; suffices(Divider::new(), 67)?);
+        assert!(rt; suffices(piles::all(), 133)?);
+        assert!(rt; suffices(piles::deep(), 265)?);
+        Ok(())
     }
 
     // Issued in one cycle, sent to the unit in the next, offered in the next, retired in the next.
     #[test]
-    fn an_addi_retires_in_the_fourth_cycle(rt: HostRuntime) {
+    fn an_addi_retires_in_the_fourth_cycle(rt: HostRuntime) -> Result<(), Fail> {
         let words = [0x0010_8093; 3];
-        assert_eq!(rt; run(Plain::new(), &words, 1, 3), (3, 0));
-        assert_eq!(rt; run(Plain::new(), &words, 1, 9), (4, 1));
-        assert_eq!(rt; run(Plain::new(), &words, 3, 5), (5, 2));
-        assert_eq!(rt; run(Plain::new(), &words, 3, 6), (6, 3));
+        assert_eq!(rt; run(Plain::new(), &words, 1, 3)?, (3, 0));
+        assert_eq!(rt; run(Plain::new(), &words, 1, 9)?, (4, 1));
+        assert_eq!(rt; run(Plain::new(), &words, 3, 5)?, (5, 2));
+        assert_eq!(rt; run(Plain::new(), &words, 3, 6)?, (6, 3));
+        Ok(())
     }
 
     // A product is offered three steps later, a quotient 32.
     #[test]
-    fn a_budget_of_one_cycle_less(rt: HostRuntime) {
-        assert_eq!(rt; run(Multiplier::new(), &[0x0210_8133], 1, 6), (6, 0));
-        assert_eq!(rt; run(Multiplier::new(), &[0x0210_8133], 1, 7), (7, 1));
-        assert_eq!(rt; run(Divider::new(), &[0x0211_41b3], 1, 35), (35, 0));
-        assert_eq!(rt; run(Divider::new(), &[0x0211_41b3], 1, 36), (36, 1));
+    fn a_budget_of_one_cycle_less(rt: HostRuntime) -> Result<(), Fail> {
+        assert_eq!(rt; run(Multiplier::new(), &[0x0210_8133], 1, 6)?, (6, 0));
+        assert_eq!(rt; run(Multiplier::new(), &[0x0210_8133], 1, 7)?, (7, 1));
+        assert_eq!(rt; run(Divider::new(), &[0x0211_41b3], 1, 35)?, (35, 0));
+        assert_eq!(rt; run(Divider::new(), &[0x0211_41b3], 1, 36)?, (36, 1));
+        Ok(())
     }
 }
 
 #[cfg(test)]
 mod interrupts {
     use crate::cores::started;
-    use divider::Divider;
-    use join::pile;
-    use machine::classes::Classes;
-    use machine::record::Record;
+    use engines::{Engine, next_retirement};
+    use machine::record::Retirement;
     use machine::state::Machine;
-    use pipelines::multiplier::Multiplier;
-    use pipelines::plain::Plain;
     use scheduler::running::Running;
     use std::process::Abort;
     use std::test::Fail;
@@ -148,59 +150,27 @@ mod interrupts {
     ];
 
     const VECTOR: u32 = 0x18;
-    // of the join of plain unit and multiplier, and divider
-    const LONGEST_WAIT: u32 = 133;
 
     const RETIREMENTS: u32 = 32;
 
-    fn retirement<U: Unit>(core: &mut Running<U>) -> Option<Record> {
-        for _ in 0..LONGEST_WAIT {
-            let record = core.cycle();
-            if record.is_some() {
-                return record;
-            }
-        }
-        None
-    }
-
-    fn same(a: Record, b: Record) -> bool {
-        a.pc == b.pc
-            && a.word == b.word
-            && a.outcome.number() == b.outcome.number()
-            && a.destination == b.destination
-            && a.value == b.value
-            && a.next == b.next
-    }
-
-    // The line is up during one retirement, and down during the others.
-    fn follow<U: Unit>(
+    // The line is up during one retirement, and down during the others. How many interrupts there were.
+    fn follow<U: Unit + Drop>(
         rt: &impl Abort,
         core: &mut Running<U>,
         machine: &mut Machine,
         up: u32,
-    ) -> Result<u32, Fail> {
+    ) -> u32 {
         let mut interrupts = 0u32;
         for i in 0..RETIREMENTS {
-            if i == up {
-                core.raise_line();
-            } else {
-                core.drop_line();
-            }
-            let Some(record) = retirement(core) else {
-                return Err(Fail::new("no retirement within the longest wait"));
-            };
-            assert!(rt; same(record, machine.step(Classes::ALL, i == up)));
-            if record.outcome.number() == 2 {
+            let line = i == up;
+            let record = next_retirement(core, line, piles::LONGEST_WAIT);
+            assert_eq!(rt; record, machine.advance(line));
+            if record.is_some_and(|record| record.outcome == Retirement::Interrupted) {
                 interrupts = interrupts.saturating_add(1);
             }
         }
-        for number in 0u8..32 {
-            assert_eq!(rt;
-                core.machine().register(number).unwrap_or(1),
-                machine.register(number).unwrap_or(0)
-            );
-        }
-        Ok(interrupts)
+        assert_eq!(rt; core.machine().registers(), machine.registers());
+        interrupts
     }
 
     // 21 retirements lead to the ECALL, and then its trap, the handler's ADDI and the MRET take turns. Of these the MRET
@@ -212,13 +182,10 @@ mod interrupts {
     #[test]
     fn at_every_retirement(rt: HostRuntime) -> Result<(), Fail> {
         for up in 0..RETIREMENTS {
-            let unit = pile(Plain::new(), Multiplier::new(), Divider::new());
-            let Ok(mut core) = started(unit, &WORDS, VECTOR) else {
-                return Err(Fail::new("load refused"));
-            };
+            let mut core = started(piles::all(), &WORDS, VECTOR)?;
             let mut machine = Machine::new();
             assert!(rt; machine.load(&WORDS, 0, VECTOR).is_ok());
-            assert_eq!(rt; follow(&rt, &mut core, &mut machine, up)?, taken(up));
+            assert_eq!(rt; follow(&rt, &mut core, &mut machine, up), taken(up));
             assert_eq!(rt; core.machine().pc(), machine.pc());
             assert_eq!(rt; core.machine().trap_state().mepc, machine.trap_state().mepc);
             assert_eq!(rt;

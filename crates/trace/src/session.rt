@@ -1,6 +1,9 @@
 // A run: what makes its retirements, and how they went.
+ghost use Rattle.std.specs.Prelude.{◌≡◌};
+ghost use Rattle.trace.specs.Sessions.{session_of, SessionAdvances};
+
 use crate::counts::Counts;
-use crate::engine::Engine;
+use engines::Engine;
 use machine::record::Record;
 use options::schedule::{LineEvent, line_stands};
 
@@ -13,7 +16,9 @@ pub struct Session<E> {
 }
 
 impl<E: Engine> Session<E> {
-    pub(crate) fn new(engine: E) -> Session<E> {
+    pub(crate) fn new(engine: E) -> Session<E>
+        ensures { result ≡ session_of engine }
+    {
         Session {
             engine,
             counts: Counts::new(),
@@ -23,7 +28,9 @@ impl<E: Engine> Session<E> {
     }
 
     // One cycle, under the line as the events have set it by now.
-    pub(crate) fn advance(&mut self, events: &[LineEvent]) -> Option<Record> {
+    pub(crate) fn advance(&mut self, events: &[LineEvent]) -> Option<Record>
+        ensures { SessionAdvances E.Advances events.now self.old result self.new }
+    {
         let line = line_stands(events, self.retired);
         self.cycles = self.cycles.saturating_add(1);
         let record = self.engine.advance(line)?;

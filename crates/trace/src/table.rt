@@ -1,4 +1,5 @@
 // Records as a table for people: one row a retirement.
+use machine::cause::Cause;
 use machine::record::{Record, Retirement};
 use options::arguments::Report;
 use report::hex::Hex8;
@@ -14,22 +15,9 @@ pub(crate) fn heading(report: Report) -> &'static str {
     }
 }
 
-fn cause_name(cause: u32) -> &'static str {
-    match cause {
-        0 => "misaligned target",
-        1 => "access fault",
-        2 => "illegal instruction",
-        3 => "breakpoint",
-        11 => "environment call",
-        _ => "unknown cause",
-    }
-}
-
 fn instruction_text(heap: Global, record: Record) -> Result<String, AllocError> {
     // a trap for an access fault had no word to read
-    if let Retirement::Trapped = record.outcome
-        && record.value == 1
-    {
+    if record.outcome == Retirement::Trapped && record.value == Cause::AccessFault.number() {
         return String::from_str(heap, "no word");
     }
     match read(record.word) {
@@ -38,14 +26,19 @@ fn instruction_text(heap: Global, record: Record) -> Result<String, AllocError> 
     }
 }
 
+fn trap_text(heap: Global, number: u32) -> Result<String, AllocError> {
+    match Cause::try_from(number) {
+        Ok(cause) => format!(in heap; "trap {number}, {cause}"),
+        Err(fault) => format!(in heap; "trap {number}, {fault}"),
+    }
+}
+
 fn effect_text(heap: Global, record: Record) -> Result<String, AllocError> {
     let register = record.destination;
     let mark = match record.outcome {
         Retirement::Plain => "",
         Retirement::Interrupted => "interrupt",
-        Retirement::Trapped => {
-            return format!(in heap; "trap {}, {}", record.value, cause_name(record.value));
-        }
+        Retirement::Trapped => return trap_text(heap, record.value),
     };
     if register == 0 {
         String::from_str(heap, mark)

@@ -1,19 +1,23 @@
 // Pushes jobs through a named unit, step by step, and writes what it holds, what it offers and when that leaves.
 #![tactic(auto)]
 
-use console::numbers::parse_number;
+mod jobs;
+
+use crate::jobs::parse_jobs;
+use command::exit::{exit_code, said};
 use divider::Divider;
 use isa::outcome::Outcome;
-use join::{Join, pile};
 use pipelines::multiplier::Multiplier;
 use pipelines::plain::Plain;
 use refusal::NoRoom;
 use report::hex::Hex8;
 use report::stops::Stop;
 use single::Single;
+use std::alloc::AllocError;
+use std::collections::BTreeSet;
 use std::io::Read;
 use std::process::ExitCode;
-use std::{env, fmt, io};
+use std::{env, fmt};
 use units::job::{Job, Offer};
 use units::unit::Unit;
 
@@ -21,70 +25,6 @@ const USAGE: &str = "one argument: plain, multiplier, divider, single, all or de
 
 // More steps than any supplied unit needs for a job: none stays longer than 132.
 const STEPS_A_JOB: usize = 200;
-
-// What a line of the input holds.
-#[derive(Clone, Copy)]
-enum Line {
-    Blank,
-    Job(Job),
-    Bad,
-}
-
-// A job is five numbers: tag, word, pc, a, b.
-fn parse_line(line: &str) -> Line {
-    let mut numbers = [0u32; 5];
-    let mut count = 0;
-    for text in line.split_whitespace() {
-        if text.starts_with('#') {
-            break;
-        }
-        let Some(number) = parse_word(text) else {
-            return Line::Bad;
-        };
-        if count >= 5 {
-            return Line::Bad;
-        }
-        numbers[count] = number;
-        count += 1;
-    }
-    let [tag, word, pc, a, b] = numbers;
-    if count == 0 {
-        Line::Blank
-    } else if count < 5 || tag > 255 {
-        Line::Bad
-    } else {
-        Line::Job(Job {
-            tag: tag as u8,
-            word,
-            pc,
-            a,
-            b,
-        })
-    }
-}
-
-fn parse_word(text: &str) -> Option<u32> {
-    match parse_number(text.as_bytes()) {
-        Ok(number) if number <= 0xffff_ffff => Some(number as u32),
-        _ => None,
-    }
-}
-
-fn parse_jobs(rt: &HostRuntime, text: &str) -> Result<Vec<Job>, Stop> {
-    let mut jobs = Vec::new(rt.alloc());
-    for line in text.lines() {
-        match parse_line(line) {
-            Line::Blank => {}
-            Line::Job(job) => jobs.push(job)?,
-            Line::Bad => {
-                return Err(Stop::Said(format!(in rt.alloc();
-                    "`{line}` is no job: tag, word, pc, a, b"
-                )?));
-            }
-        }
-    }
-    Ok(jobs)
-}
 
 // What became of the next job.
 #[derive(Clone, Copy)]
@@ -110,34 +50,13 @@ impl fmt::Display for Attempt {
 }
 
 // The tags of the jobs that the unit was given and that have not left.
-#[derive(Clone, Copy)]
-struct Held {
-    tags: [bool; 256],
-    count: u32,
-}
-
-impl Held {
-    fn has(&self, tag: u8) -> bool {
-        self.tags[usize::from(tag)]
-    }
-
-    fn add(&mut self, tag: u8) {
-        self.tags[usize::from(tag)] = true;
-        self.count = self.count.saturating_add(1);
-    }
-
-    fn remove(&mut self, tag: u8) {
-        self.tags[usize::from(tag)] = false;
-        self.count = self.count.saturating_sub(1);
-    }
-}
+#[derive(Drop)]
+struct Held(BTreeSet<u8>);
 
 impl fmt::Display for Held {
     fn fmt<W: fmt::Write>(&self, f: &mut fmt::Formatter<W>) -> fmt::Result {
-        for tag in 0..256 {
-            if self.tags[tag] {
-                write!(f, " {tag}")?;
-            }
+        for tag in &self.0 {
+            write!(f, " {tag}")?;
         }
         Ok(())
     }
@@ -171,55 +90,54 @@ struct Bench<'a, U> {
 }
 
 impl<'a, U: Unit> Bench<'a, U> {
-    fn give(&mut self) -> Attempt {
+    fn give(&mut self) -> Result<Attempt, AllocError> {
         let [job, rest @ ..] = self.waiting else {
-            return Attempt::NoJob;
+            return Ok(Attempt::NoJob);
         };
         let tag = job.tag;
-        if self.held.has(tag) {
-            return Attempt::Waits(tag);
+        if self.held.0.contains(&tag) {
+            return Ok(Attempt::Waits(tag));
         }
         if self.unit.take(*job).is_ok() {
-            self.held.add(tag);
+            self.held.0.insert(tag)?;
             self.waiting = rest;
-            Attempt::Taken(tag)
-        } else if self.held.count == 0 {
+            Ok(Attempt::Taken(tag))
+        } else if self.held.0.is_empty() {
             // a unit without jobs has room for each of its classes: it will never take this one
             self.waiting = rest;
-            Attempt::Dropped(tag)
+            Ok(Attempt::Dropped(tag))
         } else {
-            Attempt::Refused(tag)
+            Ok(Attempt::Refused(tag))
         }
     }
 
-    fn step(&mut self, rt: &HostRuntime, number: usize) -> io::Result<()> {
-        let attempt = self.give();
+    fn step(&mut self, rt: &HostRuntime, number: usize) -> Result<(), Stop> {
+        let attempt = self.give()?;
         let offer = self.unit.offer();
-        let held = self.held;
-        let shown = Shown(offer);
-        println!(rt; "step {number}: {attempt}; held{held}; {shown}")?;
+        println!(rt;
+            "step {number}: {attempt}; held{}; {}",
+            self.held,
+            Shown(offer)
+        )?;
         self.unit.step(true);
         // the accepted offer leaves
         if let Some(Offer { tag, .. }) = offer {
-            self.held.remove(tag);
+            self.held.0.remove(&tag);
         }
         Ok(())
     }
 }
 
-fn watch<U: Unit + Drop>(rt: &HostRuntime, mut unit: U, jobs: &[Job]) -> io::Result<()> {
+fn watch<U: Unit + Drop>(rt: &HostRuntime, mut unit: U, jobs: &[Job]) -> Result<(), Stop> {
     unit.clear();
     let mut bench = Bench {
         unit,
         waiting: jobs,
-        held: Held {
-            tags: [false; 256],
-            count: 0,
-        },
+        held: Held(BTreeSet::new(rt.alloc())),
     };
     let limit = jobs.len().saturating_mul(STEPS_A_JOB);
     for number in 0..limit {
-        if bench.waiting.is_empty() && bench.held.count == 0 {
+        if bench.waiting.is_empty() && bench.held.0.is_empty() {
             break;
         }
         bench.step(rt, number)?;
@@ -228,47 +146,28 @@ fn watch<U: Unit + Drop>(rt: &HostRuntime, mut unit: U, jobs: &[Job]) -> io::Res
 }
 
 // The unit of that name.
-fn watch_named(rt: &HostRuntime, name: &str, jobs: &[Job]) -> io::Result<bool> {
+fn watch_named(rt: &HostRuntime, name: &str, jobs: &[Job]) -> Result<(), Stop> {
     match name {
-        "plain" => watch(rt, Plain::new(), jobs)?,
-        "multiplier" => watch(rt, Multiplier::new(), jobs)?,
-        "divider" => watch(rt, Divider::new(), jobs)?,
-        "single" => watch(rt, Single::new(), jobs)?,
-        "all" => watch(
-            rt,
-            pile(Plain::new(), Multiplier::new(), Divider::new()),
-            jobs,
-        )?,
-        "deep" => {
-            let plain = Join::new(Plain::new(), Plain::new());
-            let slow = Join::new(Multiplier::new(), Divider::new());
-            watch(rt, Join::new(plain, slow), jobs)?
-        }
-        _ => return Ok(false),
+        "plain" => watch(rt, Plain::new(), jobs),
+        "multiplier" => watch(rt, Multiplier::new(), jobs),
+        "divider" => watch(rt, Divider::new(), jobs),
+        "single" => watch(rt, Single::new(), jobs),
+        "all" => watch(rt, piles::all(), jobs),
+        "deep" => watch(rt, piles::deep(), jobs),
+        _ => Err(said(rt.alloc(), USAGE)),
     }
-    Ok(true)
 }
 
 fn run(rt: &HostRuntime) -> Result<(), Stop> {
     let Some(name) = env::args(rt)?.nth(1) else {
-        return Err(Stop::Said(String::from_str(rt.alloc(), USAGE)?));
+        return Err(said(rt.alloc(), USAGE));
     };
     let mut text = String::new(rt.alloc());
     rt.stdin().read_to_string(&mut text)?;
-    let jobs = parse_jobs(rt, text.as_str())?;
-    if watch_named(rt, name.as_str(), jobs.as_slice())? {
-        Ok(())
-    } else {
-        Err(Stop::Said(String::from_str(rt.alloc(), USAGE)?))
-    }
+    let jobs = parse_jobs(rt.alloc(), text.as_str())?;
+    watch_named(rt, name.as_str(), jobs.as_slice())
 }
 
 fn main(rt: HostRuntime) -> ExitCode {
-    match run(&rt) {
-        Ok(()) => ExitCode::SUCCESS,
-        Err(fault) => {
-            let _ = eprintln!(rt; "watch: {fault}");
-            ExitCode::FAILURE
-        }
-    }
+    exit_code(&rt, "watch", run(&rt))
 }

@@ -1,0 +1,3 @@
+pub mod Saying
+pub mod Arguments
+pub mod Pages

@@ -1,0 +1,3 @@
+pub mod Retirements
+pub mod Engines
+pub mod Waits
