@@ -114,6 +114,7 @@ fn replay<U: Unit + Drop>(rt: &HostRuntime, settings: Settings, unit: U) -> Resu
 
 fn run(rt: &HostRuntime) -> Result<(), Stop> {
     let settings = settings_of(rt)?;
+    // each unit is a type of its own
     match settings.kind {
         Kind::Plain => replay(rt, settings, Plain::new()),
         Kind::Multiplier => replay(rt, settings, Multiplier::new()),

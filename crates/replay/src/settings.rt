@@ -112,6 +112,8 @@ impl Settings {
     }
 }
 
+// As `options::arguments` walks its list: a trait over both would name settings, arguments, faults and five definitions
+// for these ten lines.
 // Or the place of the argument that is refused, counted from 1, and why.
 fn parse_settings(texts: &[String]) -> Result<Settings, (usize, SettingFault)> {
     let mut settings = Settings {

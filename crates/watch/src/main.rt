@@ -145,7 +145,7 @@ fn watch<U: Unit + Drop>(rt: &HostRuntime, mut unit: U, jobs: &[Job]) -> Result<
     Ok(())
 }
 
-// The unit of that name.
+// The unit of that name; each is a type of its own.
 fn watch_named(rt: &HostRuntime, name: &str, jobs: &[Job]) -> Result<(), Stop> {
     match name {
         "plain" => watch(rt, Plain::new(), jobs),
