@@ -40,6 +40,7 @@ fn text_before(byte: u8, text: &[u8]) -> &[u8]
     }
 }
 
+// From the front, and below from the back: which end it is, only the pattern can say.
 fn trim_front(text: &[u8]) -> &[u8]
     ensures { result.now ≡ trimmed_front text.now }
 {

@@ -24,11 +24,11 @@ impl<T: Drop> From<AllocFailed<T>> for ProgramFault {
 fn take_line(words: &mut Vec<u32>, number: usize, line: &[u8]) -> Result<(), ProgramFault>
     ensures { MatchResult result (λ _. (ws : List ℕ) × (words_of_line number (line_word line.now) ≡ Ok ws) × (words.new.items ≡ words.old.items ++ ws)) (λ e. (e ≡ NoMemory) ⊎ (words_of_line number (line_word line.now) ≡ Err e)) }
 {
-    match parse_line(line) {
-        Ok(Some(word)) => Ok(words.push(word)?),
-        Ok(None) => Ok(()),
-        Err(fault) => Err(ProgramFault::BadLine(number, fault)),
+    let word = parse_line(line).map_err(|fault| ProgramFault::BadLine(number, fault))?;
+    if let Some(word) = word {
+        words.push(word)?;
     }
+    Ok(())
 }
 
 pub fn parse_program(heap: Global, text: &[u8]) -> Result<Vec<u32>, ProgramFault>

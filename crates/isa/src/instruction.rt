@@ -1,4 +1,4 @@
-// An instruction: an operation with its registers and its immediate, 0 where the operation lacks one.
+// An instruction: an operation with its registers and its immediate, 0 where the operation lacks one, since words are written of those.
 use crate::operation::Operation;
 
 #[derive(Clone, Copy)]

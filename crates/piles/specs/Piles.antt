@@ -1,8 +1,7 @@
 -- The piles of supplied units, as they are made: nothing is held, and the turn is at the left in each join.
 -- Assumes nothing.
 use Rattle.std.specs.Prelude.{◌≡◌, []}
-use Rattle.pipelines.specs.declared.plain.Plain.{Plain}
-use Rattle.pipelines.specs.declared.multiplier.Multiplier.{Multiplier}
+use Rattle.pipelines.specs.Supplied.{Plain, Multiplier}
 use Rattle.pipelines.specs.Queues.{jobs_of}
 use Rattle.divider.specs.declared.Divider.{Divider}
 use Rattle.divider.specs.States.{idle}

@@ -64,9 +64,8 @@ fn answer_all<U: Unit>(
         return Ok(());
     };
     page.write(rt, format_args!("{}\n", answer(core, first)))?;
-    for line in &mut input.lines {
-        input.number = input.number.saturating_add(1);
-        if let Some(call) = call_on(rt, input.number, line)? {
+    for (i, line) in &mut input.lines {
+        if let Some(call) = call_on(rt, i, line)? {
             page.write(rt, format_args!("{}\n", answer(core, call)))?;
         }
     }

@@ -114,8 +114,7 @@ impl Settings {
 
 // As `options::arguments` walks its list: a trait over both would name settings, arguments, faults and five definitions
 // for these ten lines.
-// Or the place of the argument that is refused, counted from 1, and why.
-fn parse_settings(texts: &[String]) -> Result<Settings, (usize, SettingFault)> {
+fn parse_settings(texts: &[String]) -> Result<Settings, ArgumentLine<'_, SettingFault>> {
     let mut settings = Settings {
         pc: 0,
         vector: 0,
@@ -125,20 +124,16 @@ fn parse_settings(texts: &[String]) -> Result<Settings, (usize, SettingFault)> {
     for (i, text) in texts.iter().enumerate() {
         waiting = settings
             .take(waiting, text.as_str())
-            .map_err(|fault| (i + 1, fault))?;
+            .map_err(|fault| ArgumentLine::new(texts, i + 1, fault))?;
     }
     match waiting {
         None => Ok(settings),
-        Some(_) => Err((texts.len(), SettingFault::NoValue)),
+        Some(_) => Err(ArgumentLine::new(texts, texts.len(), SettingFault::NoValue)),
     }
 }
 
 pub(crate) fn settings_of(rt: &HostRuntime) -> Result<Settings, Stop> {
     // the first is the program's own name
     let texts: Vec<String> = env::args(rt)?.skip(1).collect(rt.alloc())?;
-    let texts = texts.as_slice();
-    parse_settings(texts).map_err(|(place, fault)| said(
-        rt.alloc(),
-        ArgumentLine::new(texts, place, fault),
-    ))
+    parse_settings(texts.as_slice()).map_err(|refused| said(rt.alloc(), refused))
 }

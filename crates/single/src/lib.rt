@@ -33,6 +33,7 @@ impl Unit for Single {
         matches!(class, Class::Plain) && self.job.is_none()
     }
 
+    // As a pipeline's: what each unit does with a job that has room is its own.
     fn take(&mut self, job: Job) -> Result<(), NoRoom>
         ensures answer { result ≡ take_answer (room_for single self.old job.word) }
         ensures exact { self.new.job ≡ taken_in job self.old.job }

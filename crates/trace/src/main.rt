@@ -32,6 +32,7 @@ fn options_of(rt: &HostRuntime) -> Result<Options, Stop> {
     ))
 }
 
+// By a match, here and below: a closure for each report would carry the page and the runtime.
 fn write_record(
     rt: &HostRuntime,
     page: &mut Page,
@@ -114,6 +115,7 @@ fn run(rt: &HostRuntime) -> Result<(), Stop> {
     let options = options_of(rt)?;
     let words = read_program(rt)?;
     let words = words.as_slice();
+    // each engine is a type of its own
     if options.sequential {
         run_engine(rt, &options, words, 1, Machine::new())
     } else {

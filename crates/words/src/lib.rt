@@ -22,10 +22,8 @@ pub fn read(word: u32) -> Result<Instruction, IllegalWord>
     ensures one { IfOk result (OneWord word) }
 {
     let fields = fields::split(word);
-    match table::choose(fields) {
-        Some(operation) => Ok(formats::take(operation, fields)),
-        None => Err(IllegalWord { word }),
-    }
+    let operation = table::choose(fields).ok_or(IllegalWord { word })?;
+    Ok(formats::take(operation, fields))
 }
 
 // An instruction that is written is what its word reads as, and no other is written as that.

@@ -7,11 +7,11 @@ use Rattle.words.specs.Words.{read_as, read_word}
 use Rattle.words.proofs.Trips.{read_back, one_word}
 use Rattle.words.proofs.read.Goals as goal
 
-pub returns-in-Some : goal.returns-in-Some
-returns-in-Some c =
+pub returns : goal.returns
+returns c =
     let w = c.args.word in
-    let o = c.in-Some.operation in
-    let e : chosen (cut w) ≡ Some o = ap chosen (sym c.split-fields.ensures) ∙ sym c.choose.ensures ∙ c.in-Some.is in
+    let o = c.in_ok-operation.operation in
+    let e : chosen (cut w) ≡ Some o = ap chosen (sym c.split-fields.ensures) ∙ sym c.choose.ensures ∙ c.in_ok-operation.ensures.ok_part in
     let i : c.take.result ≡ taken o (cut w) = c.take.ensures ∙ ap (taken o) c.split-fields.ensures in
     let value : Ok c.take.result ≡ read_word w = ap Ok i ∙ ap (λ x. read_as x w) (sym e) in
     let h : w < 2 ^ 32 = omega arith in
