@@ -64,8 +64,9 @@ fn answer_all<U: Unit>(
         return Ok(());
     };
     page.write(rt, format_args!("{}\n", answer(core, first)))?;
-    for (i, line) in &mut input.lines {
-        if let Some(call) = call_on(rt, i, line)? {
+    for line in &mut input.lines {
+        input.number = input.number.saturating_add(1);
+        if let Some(call) = call_on(rt, input.number, line)? {
             page.write(rt, format_args!("{}\n", answer(core, call)))?;
         }
     }
