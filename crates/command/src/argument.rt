@@ -1,9 +1,15 @@
-// A refused argument, in a line for people.
+// The arguments, and a refused one in a line for people.
 ghost use Rattle.std.specs.Prelude.{◌≡◌, ◌-◌, map, string_bytes, slice_get};
 ghost use Rattle.std.specs.Option.{option_map};
 ghost use Rattle.command.specs.Arguments.{argument_line};
 
-use std::fmt;
+use report::stops::Stop;
+use std::{env, fmt};
+
+// All but the first, which is the program's own name.
+pub fn arguments(rt: &HostRuntime) -> Result<Vec<String>, Stop> {
+    Ok(env::args(rt)?.skip(1).collect(rt.alloc())?)
+}
 
 // The argument at the place, counted from 1, its text where there is one, and its fault.
 #[derive(Drop)]

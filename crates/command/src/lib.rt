@@ -1,7 +1,7 @@
 // What every command-line program does.
 //
 //   exit       says why a program stops
-//   argument   a refused argument, in a line for people
+//   argument   the arguments, and a refused one in a line for people
 //   input      the program's words, from standard input
 //   page       standard output, written once a page has come together
 //   registers  the registers that are not 0, in lines

@@ -14,7 +14,7 @@ use pipelines::multiplier::Multiplier;
 use pipelines::plain::Plain;
 use report::stops::Stop;
 use scheduler::stopped::Stopped;
-use std::io::Read;
+use std::io;
 use std::process::ExitCode;
 use units::unit::Unit;
 
@@ -52,8 +52,7 @@ fn replay_cores(rt: &HostRuntime, recordings: &[Recording]) -> Result<(), Stop> 
 }
 
 fn run(rt: &HostRuntime) -> Result<(), Stop> {
-    let mut text = String::new(rt.alloc());
-    rt.stdin().read_to_string(&mut text)?;
+    let text = io::read_to_string(rt.alloc(), rt.stdin())?;
     let recordings = parse(rt.alloc(), text.as_str()).map_err(|fault| said(rt.alloc(), fault))?;
     replay(
         rt,

@@ -38,7 +38,7 @@ impl<T: Drop> From<AllocFailed<T>> for LineFault {
     }
 }
 
-// The line that is none of a recording, counted from 1, or for which memory ran out.
+// The line that is none of a recording, counted from 1, or for which memory ran out. Only its number is shown.
 #[derive(Clone, Copy)]
 pub struct BadLine {
     pub number: usize,

@@ -14,9 +14,6 @@ use report::stops::Stop;
 use std::alloc::{AllocError, Global};
 use std::fmt;
 
-// The longest wait over the deepest of the piles, whose longest stay is 132.
-const LONGEST_WAIT: u64 = 265;
-
 // The line that is expected, and the one that came instead, shown for people.
 #[derive(Clone, Copy)]
 struct Comparison<'a> {
@@ -49,12 +46,13 @@ impl<'a> Comparison<'a> {
     }
 }
 
-// The next retirement, with the line as the events have set it by then; None if there is none in the longest wait.
+// The next retirement, with the line as the events have set it by then; None if there is none in the longest wait over
+// the deepest of the piles.
 fn next_record<E: Engine>(engine: &mut E, events: &[LineEvent], retired: u64) -> Option<Record>
     ensures { E.Retires 265 (line_stands events.now retired) engine.old result engine.new }
 {
     let line = line_stands(events, retired);
-    next_retirement(engine, line, LONGEST_WAIT)
+    next_retirement(engine, line, piles::DEEP_LONGEST_WAIT)
 }
 
 fn record_line(heap: Global, record: Option<Record>) -> Result<String, AllocError> {

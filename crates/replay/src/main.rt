@@ -35,6 +35,7 @@ fn answer<U: Unit>(core: &mut Running<U>, call: Call) -> Answer
         Call::Retire => Answer::Retire(core.retire()),
         Call::Cycle => Answer::Cycle(core.cycle()),
         Call::Run { wanted, budget } => {
+            // field by field: `past` reads and writes lines without the scheduler's types
             let ran = core.run(wanted, budget);
             Answer::Run {
                 cycles: ran.cycles,
@@ -63,32 +64,29 @@ fn answer_all<U: Unit>(
     let Some(first) = first else {
         return Ok(());
     };
-    page.write(rt, format_args!("{}\n", answer(core, first)))?;
+    page.write(format_args!("{}\n", answer(core, first)))?;
     for line in &mut input.lines {
         input.number = input.number.saturating_add(1);
         if let Some(call) = call_on(rt, input.number, line)? {
-            page.write(rt, format_args!("{}\n", answer(core, call)))?;
+            page.write(format_args!("{}\n", answer(core, call)))?;
         }
     }
     Ok(())
 }
 
-fn write_state<U: Unit>(rt: &HostRuntime, core: &Running<U>, page: &mut Page) -> Result<(), Stop> {
+fn write_state<U: Unit>(core: &Running<U>, page: &mut Page) -> Result<(), Stop> {
     let machine = core.machine();
     let trap = machine.trap_state();
-    page.write(
-        rt,
-        format_args!(
-            "pc {}\nmepc {}\nmcause {}\nmie {}\nmpie {}\nline {}\n",
-            Hex8(machine.pc()),
-            Hex8(trap.mepc),
-            Hex8(trap.mcause),
-            u8::from(trap.mie),
-            u8::from(trap.mpie),
-            u8::from(core.line())
-        ),
-    )?;
-    page.write(rt, RegisterLines { machine, width: 0 })
+    page.write(format_args!(
+        "pc {}\nmepc {}\nmcause {}\nmie {}\nmpie {}\nline {}\n",
+        Hex8(machine.pc()),
+        Hex8(trap.mepc),
+        Hex8(trap.mcause),
+        u8::from(trap.mie),
+        u8::from(trap.mpie),
+        u8::from(core.line())
+    ))?;
+    page.write(RegisterLines { machine, width: 0 })
 }
 
 fn replay<U: Unit + Drop>(rt: &HostRuntime, settings: Settings, unit: U) -> Result<(), Stop> {
@@ -102,13 +100,13 @@ fn replay<U: Unit + Drop>(rt: &HostRuntime, settings: Settings, unit: U) -> Resu
         settings.pc,
         settings.vector,
     )?;
-    let mut page = Page::new(rt.alloc());
+    let mut page = Page::new(rt);
     let answered = answer_all(rt, &mut core, first, &mut input, &mut page);
     if answered.is_ok() {
-        write_state(rt, &core, &mut page)?;
+        write_state(&core, &mut page)?;
     }
     // a bad call does not take back the answers before it
-    page.flush(rt)?;
+    page.flush()?;
     answered
 }
 

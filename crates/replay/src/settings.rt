@@ -2,15 +2,15 @@
 ghost use Rattle.std.specs.Prelude.{◌≡◌};
 ghost use Rattle.replay.specs.declared.settings.SettingFault.TheVariants.{BadNumber};
 
-use command::argument::ArgumentLine;
+use command::argument::{ArgumentLine, arguments};
 use command::exit::said;
 use console::numbers::NumberFault;
 use options::addresses::parse_address;
 use report::stops::Stop;
+use std::fmt;
 use std::str::FromStr;
-use std::{env, fmt};
 
-// The unit under the core.
+// The unit under the core. `watch` takes `single` too, and needs no type for the names: it runs the unit where it reads one.
 #[derive(Clone, Copy)]
 pub enum Kind {
     Plain,
@@ -133,7 +133,5 @@ fn parse_settings(texts: &[String]) -> Result<Settings, ArgumentLine<'_, Setting
 }
 
 pub(crate) fn settings_of(rt: &HostRuntime) -> Result<Settings, Stop> {
-    // the first is the program's own name
-    let texts: Vec<String> = env::args(rt)?.skip(1).collect(rt.alloc())?;
-    parse_settings(texts.as_slice()).map_err(|refused| said(rt.alloc(), refused))
+    parse_settings(arguments(rt)?.as_slice()).map_err(|refused| said(rt.alloc(), refused))
 }

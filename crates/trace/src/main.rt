@@ -7,8 +7,7 @@ mod summary;
 mod table;
 
 use crate::session::Session;
-use crate::summary::Summary;
-use command::argument::ArgumentLine;
+use command::argument::{ArgumentLine, arguments};
 use command::exit::{exit_code, said};
 use command::input::read_program;
 use command::page::Page;
@@ -19,12 +18,10 @@ use options::arguments::{Options, Report, parse_options};
 use report::records::RecordLine;
 use report::stops::Stop;
 use scheduler::stopped::Stopped;
-use std::env;
 use std::process::ExitCode;
 
 fn options_of(rt: &HostRuntime) -> Result<Options, Stop> {
-    // the first is the program's own name
-    let texts: Vec<String> = env::args(rt)?.skip(1).collect(rt.alloc())?;
+    let texts = arguments(rt)?;
     let texts = texts.as_slice();
     parse_options(rt.alloc(), texts).map_err(|bad| said(
         rt.alloc(),
@@ -32,7 +29,7 @@ fn options_of(rt: &HostRuntime) -> Result<Options, Stop> {
     ))
 }
 
-// By a match, here and below: a closure for each report would carry the page and the runtime.
+// By a match, here and below: a closure for each report would carry the page.
 fn write_record(
     rt: &HostRuntime,
     page: &mut Page,
@@ -42,10 +39,10 @@ fn write_record(
 ) -> Result<(), Stop> {
     match report {
         Report::Summary => Ok(()),
-        Report::Records => page.write(rt, format_args!("{}\n", RecordLine(record))),
+        Report::Records => page.write(format_args!("{}\n", RecordLine(record))),
         Report::Table => {
             let row = table::row(rt.alloc(), number, record)?;
-            page.write(rt, format_args!("{row}\n"))
+            page.write(format_args!("{row}\n"))
         }
     }
 }
@@ -71,7 +68,6 @@ fn run_session<E: Engine>(
 
 // After a table a line is left blank.
 fn write_summary<E: Engine>(
-    rt: &HostRuntime,
     page: &mut Page,
     report: Report,
     session: &Session<E>,
@@ -81,13 +77,7 @@ fn write_summary<E: Engine>(
         Report::Table => "\n",
         Report::Summary => "",
     };
-    let summary = Summary {
-        machine: session.engine.machine(),
-        counts: session.counts,
-        retired: session.retired,
-        cycles: session.cycles,
-    };
-    page.write(rt, format_args!("{gap}{summary}"))
+    page.write(format_args!("{gap}{session}"))
 }
 
 // A retirement takes at most the wait.
@@ -103,11 +93,11 @@ fn run_engine<E: Engine + Drop>(
         .budget
         .unwrap_or(options.retire.saturating_mul(wait));
     let mut session = Session::new(engine);
-    let mut page = Page::new(rt.alloc());
-    page.write(rt, table::heading(options.report))?;
+    let mut page = Page::new(rt);
+    page.write(table::heading(options.report))?;
     run_session(rt, options, budget, &mut session, &mut page)?;
-    write_summary(rt, &mut page, options.report, &session)?;
-    page.flush(rt)?;
+    write_summary(&mut page, options.report, &session)?;
+    page.flush()?;
     Ok(())
 }
 

@@ -1,26 +1,17 @@
 // What a run came to, for people.
-use crate::counts::Counts;
+use crate::session::Session;
 use command::registers::RegisterLines;
-use machine::state::Machine;
+use engines::Engine;
 use report::hex::Hex8;
 use std::fmt;
 
-#[derive(Clone, Copy)]
-pub struct Summary<'a> {
-    pub machine: &'a Machine,
-    pub counts: Counts,
-    pub retired: u64,
-    pub cycles: u64,
-}
-
-impl<'a> Summary<'a> {
+impl<E: Engine> Session<E> {
     fn write_counts<W: fmt::Write>(&self, f: &mut fmt::Formatter<W>) -> fmt::Result {
-        let counts = self.counts;
         for (name, count) in [
             ("retired", self.retired),
-            ("  plain", counts.plain),
-            ("  trapped", counts.trapped),
-            ("  interrupted", counts.interrupted),
+            ("  plain", self.counts.plain),
+            ("  trapped", self.counts.trapped),
+            ("  interrupted", self.counts.interrupted),
             ("cycles", self.cycles),
         ] {
             writeln!(f, "{name:<20}{count}")?;
@@ -29,9 +20,10 @@ impl<'a> Summary<'a> {
     }
 
     fn write_words<W: fmt::Write>(&self, f: &mut fmt::Formatter<W>) -> fmt::Result {
-        let trap = self.machine.trap_state();
+        let machine = self.engine.machine();
+        let trap = machine.trap_state();
         for (name, word) in [
-            ("pc", self.machine.pc()),
+            ("pc", machine.pc()),
             ("mepc", trap.mepc),
             ("mcause", trap.mcause),
             ("mie", u32::from(trap.mie)),
@@ -44,7 +36,7 @@ impl<'a> Summary<'a> {
     }
 }
 
-impl<'a> fmt::Display for Summary<'a> {
+impl<E: Engine> fmt::Display for Session<E> {
     fn fmt<W: fmt::Write>(&self, f: &mut fmt::Formatter<W>) -> fmt::Result {
         self.write_counts(f)?;
         let divisor = self.retired.max(1);
@@ -53,7 +45,7 @@ impl<'a> fmt::Display for Summary<'a> {
         writeln!(f, "cycles/instruction  {whole}.{hundredths:02}")?;
         self.write_words(f)?;
         let registers = RegisterLines {
-            machine: self.machine,
+            machine: self.engine.machine(),
             width: 18,
         };
         write!(f, "{registers}")

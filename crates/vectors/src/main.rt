@@ -31,11 +31,11 @@ impl fmt::Display for WordLine {
 
 fn run(rt: &HostRuntime) -> Result<(), Stop> {
     let words = read_program(rt)?;
-    let mut page = Page::new(rt.alloc());
+    let mut page = Page::new(rt);
     for word in &words {
-        page.write(rt, WordLine(*word))?;
+        page.write(WordLine(*word))?;
     }
-    page.flush(rt)?;
+    page.flush()?;
     Ok(())
 }
 

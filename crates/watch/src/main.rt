@@ -15,9 +15,8 @@ use report::stops::Stop;
 use single::Single;
 use std::alloc::AllocError;
 use std::collections::BTreeSet;
-use std::io::Read;
 use std::process::ExitCode;
-use std::{env, fmt};
+use std::{env, fmt, io};
 use units::job::{Job, Offer};
 use units::unit::Unit;
 
@@ -145,7 +144,7 @@ fn watch<U: Unit + Drop>(rt: &HostRuntime, mut unit: U, jobs: &[Job]) -> Result<
     Ok(())
 }
 
-// The unit of that name; each is a type of its own.
+// The unit of that name; each is a type of its own. `replay` takes these names but for `single`.
 fn watch_named(rt: &HostRuntime, name: &str, jobs: &[Job]) -> Result<(), Stop> {
     match name {
         "plain" => watch(rt, Plain::new(), jobs),
@@ -162,8 +161,7 @@ fn run(rt: &HostRuntime) -> Result<(), Stop> {
     let Some(name) = env::args(rt)?.nth(1) else {
         return Err(said(rt.alloc(), USAGE));
     };
-    let mut text = String::new(rt.alloc());
-    rt.stdin().read_to_string(&mut text)?;
+    let text = io::read_to_string(rt.alloc(), rt.stdin())?;
     let jobs = parse_jobs(rt.alloc(), text.as_str())?;
     watch_named(rt, name.as_str(), jobs.as_slice())
 }
