@@ -34,7 +34,7 @@ pub trait Engine {
     // As programmers see it.
     ghost machine_of: { Self → Machine };
 
-    // Drops what is in flight, and begins a program.
+    // Drops what is in flight, and begins a program. The parameters are those of the published call `load`.
     fn restart(self, words: &[u32], pc: u32, vector: u32) -> Result<Self, LoadFault>
         ensures answer { result_map_both (λ e. tt) (λ f. f) result ≡ load_answer words.now pc vector }
         ensures state { IfOk result (λ e. Restarts words.now pc vector self e) };

@@ -16,6 +16,9 @@ pub type Deep = Join<Join<Plain, Plain>, Join<Multiplier, Divider>>;
 // Of a core over all units: a job stays at most 66 steps, and 133 = 2 * 66 + 1 cycles always retire an instruction.
 pub const LONGEST_WAIT: u64 = 133;
 
+// Of a core over the deep units: a job stays at most 132 steps, and 265 = 2 * 132 + 1 cycles always retire an instruction.
+pub const DEEP_LONGEST_WAIT: u64 = 265;
+
 pub fn all() -> All
     ensures { AllUnits result }
 {
