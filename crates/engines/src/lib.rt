@@ -131,6 +131,7 @@ pub fn next_retirement<E: Engine>(engine: &mut E, line: bool, most: u64) -> Opti
     ensures advances { AdvancesTo (E.Advances line) most engine.old result engine.new }
     ensures retires { 1 ≤ most → E.Retires most line engine.old result engine.new }
 {
+    // not `find_map`: its contract does not say how its closure leaves the engine, so this was not proved
     for _advance in 0..most {
         let record = engine.advance(line);
         if record.is_some() {

@@ -95,8 +95,8 @@ fn wake_place(place: &mut Option<Station>, tag: u8, value: u32)
     }
 }
 
-// In place, here and below: the array's `map` copies every station, and a cycle then takes twice as long. Two loops, since what a closure
-// does to the place it is lent was not proved.
+// In place, here and below: the array's `map` copies every station, and a cycle then takes twice as long. Two loops, since `for_each` does
+// not say how its closure leaves the places, and was not proved.
 fn wake_all(places: &mut [Option<Station>], tag: u8, value: u32)
     ensures { places.new ≡ map (woken_place tag value) places.old }
 {
