@@ -4,6 +4,7 @@ use Rattle.std.specs.Prelude.{◌≡◌, ℕ, ◌+◌, ◌-◌, ◌<◌, ◌≤�
 use Rattle.std.proofs.Math.Decide.{dec_lt}
 use Rattle.std.proofs.Common.{arith, sym, ap, subst}
 use Rattle.std.proofs.lemmas.Bool.{eq-eqb, eqb-true}
+use Rattle.std.proofs.lemmas.Option.{none-some}
 use Rattle.isa.specs.declared.operation.Class.{Class}
 use Rattle.units.specs.declared.job.Job.{Job}
 use Rattle.units.specs.declared.job.Offer.{Offer}
@@ -25,14 +26,11 @@ use Rattle.divider.specs.ValuesLemmas.{job-done}
 abbrev held_if : Bool → Job → ℕ → Option Held
 held_if b job due = cond b (Some (record { job = job; due = due })) None
 
-some_none : {P : Type 0} {X : Type 0} (x : X) → None ≡ Some x → P
-some_none x e = absurd cc
-
 -- a job that is held is that one, under its tag
 held_one : (b : Bool) (job : Job) (due : ℕ) (h : Held) → held_if b job due ≡ Some h
     → (b ≡ true) × (h.job ≡ job) × (h.due ≡ due)
 held_one true job due h e = (refl, cc, cc)
-held_one false job due h e = some_none h e
+held_one false job due h e = absurd (none-some h e)
 
 fell : (b : Bool) (job : Job) (due due' k : ℕ) → due' + k ≤ due → Fell k (held_if b job due) (held_if b job due')
 fell true job due due' k l = (refl, l)
@@ -94,7 +92,7 @@ abbrev Within : State → Type 0
 Within s = (t : ℕ) (h : Held) → held_in s t ≡ Some h → (1 ≤ h.due) × (h.due ≤ 33)
 
 within : (s : State) → Within s
-within Idle t h e = some_none h e
+within Idle t h e = absurd (none-some h e)
 within (Working w) t h e =
     let short = w.short in
     let one = held_one (w.job.tag == t) w.job (33 - w.steps) h e in
@@ -111,14 +109,14 @@ under_tag job due t h e =
     cc
 
 tagged : (s : State) (t : ℕ) (h : Held) → held_in s t ≡ Some h → h.job.tag ≡ t
-tagged Idle t h e = some_none h e
+tagged Idle t h e = absurd (none-some h e)
 tagged (Working w) t h e = under_tag w.job (33 - w.steps) t h e
 tagged (Finished f) t h e = under_tag f.job 1 t h e
 
 offered : (s : State) → SoundState s → (o : Offer) → offer_of s ≡ Some o
     → (h : Held) × (held_in s o.tag ≡ Some h) × (job_outcome h.job ≡ Some o.outcome)
-offered Idle sound o e = some_none o e
-offered (Working w) sound o e = some_none o e
+offered Idle sound o e = absurd (none-some o e)
+offered (Working w) sound o e = absurd (none-some o e)
 offered (Finished f) sound o e =
     let mine : Offer = record { tag = f.job.tag; outcome = outcome_in f } in
     let same : mine ≡ o = cc in
@@ -133,7 +131,7 @@ roomy (Finished f) c e = cc
 
 -- a held job is found under its tag
 found : {P : Type 0} (job : Job) (due : ℕ) → held_under job due job.tag ≡ None → P
-found job due e = some_none (record { job = job; due = due }) (sym (rw (own_tag job) at e))
+found job due e = absurd (none-some (record { job = job; due = due }) (sym (rw (own_tag job) at e)))
 
 empty-roomy : (s : State) → ((t : ℕ) → held_in s t ≡ None) → (c : Class) → is_divide c ≡ true → room_of s c ≡ true
 empty-roomy Idle none c e = e

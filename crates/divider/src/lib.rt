@@ -47,6 +47,7 @@ impl Unit for Divider {
         matches!((self.state, class), (State::Idle, Class::Divide))
     }
 
+    // The clauses of an impl stand in the trait's place, so Same is said again here and below.
     fn take(&mut self, job: Job) -> Result<(), NoRoom>
         ensures answer { result ≡ take_answer (room_for model self.old job.word) }
         ensures same { Same model self.old self.new }

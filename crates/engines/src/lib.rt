@@ -34,7 +34,7 @@ pub trait Engine {
     // As programmers see it.
     ghost machine_of: { Self → Machine };
 
-    // Drops what is in flight, and begins a program.
+    // Drops what is in flight, and begins a program. The parameters are those of the published call `load`.
     fn restart(self, words: &[u32], pc: u32, vector: u32) -> Result<Self, LoadFault>
         ensures answer { result_map_both (λ e. tt) (λ f. f) result ≡ load_answer words.now pc vector }
         ensures state { IfOk result (λ e. Restarts words.now pc vector self e) };
@@ -131,6 +131,7 @@ pub fn next_retirement<E: Engine>(engine: &mut E, line: bool, most: u64) -> Opti
     ensures advances { AdvancesTo (E.Advances line) most engine.old result engine.new }
     ensures retires { 1 ≤ most → E.Retires most line engine.old result engine.new }
 {
+    // not `find_map`: its contract does not say how its closure leaves the engine, so this was not proved
     for _advance in 0..most {
         let record = engine.advance(line);
         if record.is_some() {

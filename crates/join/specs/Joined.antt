@@ -1,6 +1,7 @@
 -- What a join means, by what its two sides mean.
 -- Assumes nothing.
 use Rattle.std.specs.Prelude.{ℕ, ◌-◌, ◌*◌, max, Bool, true, false, cond, not, ◌&&◌, ◌||◌, Some, None, Option}
+use Rattle.std.specs.Option.{option_or}
 use Rattle.units.specs.declared.job.Offer.{Offer}
 use Rattle.units.specs.Meaning.{UnitModel, Held}
 use Rattle.join.specs.declared.Join.{Join}
@@ -45,8 +46,7 @@ side_held turn None = None
 side_held turn (Some h) = Some (doubled turn h)
 
 abbrev pub first_of : Option Held → Option Held → Option Held
-first_of (Some h) k = Some h
-first_of None k = k
+first_of = option_or
 
 -- what is sound ---------------------------------------------------------------
 

@@ -1,12 +1,10 @@
 -- What a join holds under one tag, by what its sides hold under it.
 -- Assumes nothing.
-use Rattle.std.proofs.Common.{◌≡◌, ℕ, ◌+◌, ◌≤◌, Bool, true, false, Some, None, Option, refl, subst, arith}
+use Rattle.std.proofs.Common.{◌≡◌, ℕ, ◌+◌, ◌≤◌, Bool, true, false, Some, None, Option, sym, refl, subst, arith}
+use Rattle.std.proofs.lemmas.Option.{none-some}
 use Rattle.units.specs.declared.job.Job.{Job}
 use Rattle.units.specs.Meaning.{Held, Fell, Holds}
 use Rattle.join.specs.Joined.{doubled_due, doubled, side_held, first_of, Apart}
-
-pub not_none : {X : Type 0} (h : Held) (o : Option Held) → o ≡ None → o ≡ Some h → X
-not_none h o e f = absurd cc
 
 -- what falls ------------------------------------------------------------------------
 
@@ -60,17 +58,17 @@ apart-fell x x' y y' f g = apart-lasts x x' y y' (fell-lasts 0 x x' f) (fell-las
 
 pub apart_right : (h : Held) (x y : Option Held) → y ≡ Some h → Apart x y → x ≡ None
 apart_right h None y e a = refl
-apart_right h (Some k) None e a = not_none h None refl e
+apart_right h (Some k) None e a = absurd (none-some h e)
 apart_right h (Some k) (Some k') e a = absurd a
 
 pub apart_none : (x y : Option Held) → (x ≡ None) → Apart x y
 apart_none None y e = tt
-apart_none (Some h) y e = not_none h (Some h) e refl
+apart_none (Some h) y e = absurd (none-some h (sym e))
 
 pub none_apart : (x y : Option Held) → (y ≡ None) → Apart x y
 none_apart None y e = tt
 none_apart (Some h) None e = tt
-none_apart (Some h) (Some k) e = not_none k (Some k) e refl
+none_apart (Some h) (Some k) e = absurd (none-some k (sym e))
 
 -- one tag of both sides -------------------------------------------------------------
 
@@ -85,11 +83,11 @@ holds_left j (Some h) y e = e
 
 pub holds_right : (j : Job) (x y : Option Held) → x ≡ None → Holds j y → Holds j (first_of x y)
 holds_right j None y none e = e
-holds_right j (Some h) y none e = not_none h (Some h) none refl
+holds_right j (Some h) y none e = absurd (none-some h (sym none))
 
 pub first_empty : (turn turn' : Bool) (x y : Option Held) → first_of (side_held turn x) (side_held turn' y) ≡ None → (x ≡ None) × (y ≡ None)
-first_empty turn turn' (Some h) y e = not_none (doubled turn h) (Some (doubled turn h)) e refl
-first_empty turn turn' None (Some k) e = not_none (doubled turn' k) (Some (doubled turn' k)) e refl
+first_empty turn turn' (Some h) y e = absurd (none-some (doubled turn h) (sym e))
+first_empty turn turn' None (Some k) e = absurd (none-some (doubled turn' k) (sym e))
 first_empty turn turn' None None e = (refl, refl)
 
 -- what holds of what either side holds holds of what the join holds
@@ -98,4 +96,4 @@ pub by_side : (P : Held → Type 0) (turn turn' : Bool) (x y : Option Held)
     → (h : Held) → first_of (side_held turn x) (side_held turn' y) ≡ Some h → P h
 by_side P turn turn' (Some k) y left right h e = subst P (cc) (left k refl)
 by_side P turn turn' None (Some k) left right h e = subst P (cc) (right k refl)
-by_side P turn turn' None None left right h e = not_none h None refl e
+by_side P turn turn' None None left right h e = absurd (none-some h e)

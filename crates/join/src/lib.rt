@@ -75,6 +75,7 @@ impl<A: Unit, B: Unit> Unit for Join<A, B> {
         self.left.room(class) || self.right.room(class)
     }
 
+    // The clauses of an impl stand in the trait's place, so Same is said again here and below.
     fn take(&mut self, job: Job) -> Result<(), NoRoom>
         ensures answer { result ≡ take_answer (room_for (join_means A.Unit.means B.Unit.means) self.old job.word) }
         ensures same { Same (join_means A.Unit.means B.Unit.means) self.old self.new }
@@ -85,10 +86,12 @@ impl<A: Unit, B: Unit> Unit for Join<A, B> {
     }
 
     fn offer(&self) -> Option<Offer> {
-        match (self.left.offer(), self.right.offer()) {
-            (Some(left), Some(right)) => Some(if self.right_turn { right } else { left }),
-            (Some(left), None) => Some(left),
-            (None, right) => right,
+        let left = self.left.offer();
+        let right = self.right.offer();
+        if self.right_turn {
+            right.or(left)
+        } else {
+            left.or(right)
         }
     }
 

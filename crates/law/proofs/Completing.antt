@@ -2,6 +2,7 @@
 -- Assumes nothing.
 use Rattle.std.proofs.Common.{◌≡◌, ℕ, ◌<◌, ◌≤◌, Bool, true, false, eqb, Some, None, Option, sym, refl, ap, ◌∙◌, subst, inl, inr, arith}
 use Rattle.std.proofs.lemmas.Option.{none-some}
+use lib.ListN.{length-map}
 use Rattle.std.proofs.lemmas.Bool.{true≢false, eqb-true, eqb-false, eq-eqb, ne_eqb, cond_both}
 use Rattle.std.proofs.lemmas.Bool.Decides.{eqb_tells}
 use Rattle.isa.specs.declared.instruction.Instruction.{Instruction}
@@ -24,15 +25,15 @@ use Rattle.tables.specs.declared.station.Operand.{Operand}
 use Rattle.tables.specs.declared.station.Operand.TheVariants.{Value, Awaits}
 use Rattle.tables.specs.declared.station.Station.{Station}
 use Rattle.tables.specs.Buffers.{slot_at, entry_at, entry_in, replaced}
-use Rattle.tables.specs.Waiting.{filled, woken, all_woken}
+use Rattle.tables.specs.Waiting.{filled, woken, all_woken, woken_place}
 use Rattle.law.specs.declared.state.Core.{Core}
 use Rattle.law.specs.Steps.{brings, outcome_brings, finished_entry, completed_by}
 use Rattle.law.proofs.Plan.{destination_of, asks, result, ahead, writer}
 use Rattle.law.proofs.Tied.{slot_of, EntryTied, OperandTied, Asked, StationTied, JobTied, Tied}
 use Rattle.law.proofs.Decoding.{work_outcome}
 use Rattle.law.proofs.Slots.{slot_apart, replaced_at, replaced_other, replaced-length}
-use Rattle.law.proofs.Places.{all_weaker, all_both, all_woken_lem, in_woken, woken-length}
-use Rattle.law.proofs.Falls.{not_held, was-held, stays-held, was_not_offered, moved_free}
+use Rattle.law.proofs.Places.{all_weaker, all_both, all_woken_lem, in_woken}
+use Rattle.law.proofs.Falls.{was-held, stays-held, was_not_offered, moved_free}
 
 -- the outcome of a held job is the plan's ---------------------------------------------------
 
@@ -220,7 +221,7 @@ module _ {A : Type 0} (m : UnitModel A) (served : Class → Bool) (stay : ℕ) (
 
     -- the tag that arrived is held, so no other is it
     not_it : (t : ℕ) → m.held u t ≡ None → t ≡ slot_at c.buffer i → ⊥
-    not_it t free is = not_held k (m.held u t) free (ap (m.held u) (is ∙ sym the_job.asked.tag) ∙ held)
+    not_it t free is = absurd (none-some k (sym free ∙ ap (m.held u) (is ∙ sym the_job.asked.tag) ∙ held))
 
     unoffered : (t : ℕ) → offers_tag (m.offer u) t ≡ false → t ≡ slot_at c.buffer i → ⊥
     unoffered t none is =
@@ -243,7 +244,7 @@ module _ {A : Type 0} (m : UnitModel A) (served : Class → Bool) (stay : ℕ) (
           shaped = record {
             registers = shape.registers;
             entries = replaced-length q (slot_at q i) e shape.entries;
-            places = woken-length (slot_at q i) (outcome_brings o.outcome) c.stations.places ∙ shape.places;
+            places = length-map c.stations.places (woken_place (slot_at q i) (outcome_brings o.outcome)) ∙ shape.places;
             tags = shape.tags;
             head = shape.head;
             count = shape.count;

@@ -1,6 +1,8 @@
 -- Dispatch keeps the tie: an instruction moves from its station to the unit, with the plan's operands.
 -- Assumes nothing.
 use Rattle.std.proofs.Common.{◌≡◌, ℕ, Bool, true, ◌⊎◌, map, Some, None, sym, refl, ap, ◌∙◌, subst, inl, inr}
+use Rattle.std.proofs.lemmas.Option.{none-some}
+use lib.ListN.{length-map}
 use Rattle.std.proofs.lemmas.Bool.Decides.{eqb_tells}
 use Rattle.isa.specs.declared.operation.Class.{Class}
 use Rattle.machine.specs.declared.state.Machine.{Machine}
@@ -20,8 +22,8 @@ use Rattle.law.specs.Steps.{sent}
 use Rattle.law.proofs.Plan.{ahead}
 use Rattle.law.proofs.Tied.{InStation, OperandTied, StationTied, JobTied, HeldUnder, Tied}
 use Rattle.law.proofs.Decoding.{work-class}
-use Rattle.law.proofs.Places.{all_both, all_freed_lem, in_freed, freed_length, job-tag, goes_from}
-use Rattle.law.proofs.Falls.{not_held, was-held, stays-held, stays_free, holds_it, holds_only}
+use Rattle.law.proofs.Places.{all_both, all_freed_lem, in_freed, job-tag, goes_from}
+use Rattle.law.proofs.Falls.{was-held, stays-held, stays_free, holds_it, holds_only}
 
 -- the job of a station ------------------------------------------------------------------
 
@@ -131,7 +133,7 @@ module _ {A : Type 0} (m : UnitModel A) (served : Class → Bool) (stay : ℕ) (
         | inr e ↦ inl (in_freed t j.tag c.stations.places e.1 waiting)
       ]
   somewhere_after t (inr held) =
-      let other : t ≡ j.tag → ⊥ = λ e. not_held held.0 (m.held u j.tag) tag_was_free (ap (m.held u) (sym e) ∙ held.1) in
+      let other : t ≡ j.tag → ⊥ = λ e. absurd (none-some held.0 (sym tag_was_free ∙ ap (m.held u) (sym e) ∙ held.1)) in
       let stays = stays-held 0 (m.held u t) (m.held u' t) held.0 (takes.0.others t other) held.1 in
       inr (stays.held, stays.is)
 
@@ -142,7 +144,7 @@ module _ {A : Type 0} (m : UnitModel A) (served : Class → Bool) (stay : ℕ) (
         shaped = record {
           registers = shape.registers;
           entries = shape.entries;
-          places = freed_length j.tag c.stations.places ∙ shape.places;
+          places = length-map c.stations.places (freed_place j.tag) ∙ shape.places;
           tags = shape.tags;
           head = shape.head;
           count = shape.count;

@@ -4,9 +4,6 @@ use Rattle.std.proofs.Common.{◌≡◌, ℕ, ◌+◌, ◌≤◌, Bool, true, fa
 use Rattle.units.specs.declared.job.Job.{Job}
 use Rattle.units.specs.Meaning.{Held, Fell, Holds, Moved}
 
-pub not_held : {X : Type 0} (h : Held) (o : Option Held) → o ≡ None → o ≡ Some h → X
-not_held h o e f = cc
-
 -- what is held afterwards was held before, as the same job with a higher due
 pub record Was (k : ℕ) (o : Option Held) (h' : Held) : Type 0 where
   pub held : Held

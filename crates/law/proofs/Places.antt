@@ -1,7 +1,6 @@
 -- What holds of every station, and which entry has one, through each change of the stations.
 -- Assumes nothing.
 use Rattle.std.proofs.Common.{◌≡◌, ℕ, suc, ◌≤◌, Bool, true, false, cond, not, eqb, leb, ◌⊎◌, List, [], ◌∷◌, map, length, Some, None, Option, sym, refl, ap, ◌∙◌, subst, inl, inr, arith}
-use lib.ListN.{length-map}
 use Rattle.std.proofs.lemmas.Bool.{false≢true, and_from, and_left, and_right, or_from, or_left, or_right, eq-eqb, cond_both}
 use Rattle.std.proofs.lemmas.Bool.Decides.{eqb_tells, leb_tells}
 use Rattle.isa.specs.declared.operation.Class.{Class}
@@ -94,12 +93,6 @@ pub placed-length : (s : Station) (l : List (Option Station)) → length (placed
 placed-length s [] = refl
 placed-length s (None ∷ l) = refl
 placed-length s (Some x ∷ l) = ap suc (placed-length s l)
-
-pub woken-length : (t v : ℕ) (l : List (Option Station)) → length (map (woken_place t v) l) ≡ length l
-woken-length t v l = length-map l (woken_place t v)
-
-pub freed_length : (t : ℕ) (l : List (Option Station)) → length (map (freed_place t) l) ≡ length l
-freed_length t l = length-map l (freed_place t)
 
 -- where no entry has a station there is a free one
 pub free_if_none : (l : List (Option Station)) → AllStations (λ s. ⊥) l → length l ≡ 8 → any_free l ≡ true

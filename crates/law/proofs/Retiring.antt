@@ -1,7 +1,7 @@
 -- A retirement keeps the tie: one that goes on to pc + 4 shifts the plan by one, any other leaves nothing in flight.
 -- Assumes nothing.
 use Rattle.std.proofs.Common.{◌≡◌, ℕ, zero, suc, ◌-◌, ◌<◌, Bool, true, false, cond, not, ◌&&◌, ◌||◌, eqb, ◌⊎◌, length, set, Some, None, Option, sym, refl, ap, ◌∙◌, subst, inl, inr, arith, length-set}
-use Rattle.std.proofs.lemmas.Bool.{eqb-true, false≢true}
+use Rattle.std.proofs.lemmas.Bool.{eqb-true, false≢true, cond_both}
 use Rattle.std.proofs.lemmas.Bool.Decides.{eqb_tells}
 use Rattle.isa.specs.declared.instruction.Instruction.{Instruction}
 use Rattle.isa.specs.declared.operation.Class.{Class}
@@ -41,18 +41,14 @@ use Rattle.law.proofs.Starting.{nothing_in_flight}
 
 -- what a step leaves of the registers ---------------------------------------------
 
-by_cond : {X : Type 0} (P : X → Type 0) (b : Bool) (x y : X) → P x → P y → P (cond b x y)
-by_cond P true x y h k = h
-by_cond P false x y h k = k
-
 written-sized : (rd v n : ℕ) (x : Machine) → Sized x → Sized (written rd v n x)
 written-sized rd v n x h =
-    by_cond (λ rs. length rs ≡ 32) (eqb rd 0) x.registers (set x.registers rd v) h (length-set x.registers rd v ∙ h)
+    cond_both (eqb rd 0) x.registers (set x.registers rd v) (λ rs. length rs ≡ 32) (λ _. h) (λ _. length-set x.registers rd v ∙ h)
 
 settled-sized : (line : Bool) (pc w d v : ℕ) (x : Machine) → Sized x → Sized (settled line pc w d v x).0
 settled-sized line pc w d v x h =
-    by_cond (λ (y : Machine × Record). Sized y.0) (line && x.trap.mie)
-    (recorded pc w Interrupted d v (entered x.pc external_interrupt x)) (recorded pc w Plain d v x) h h
+    cond_both (line && x.trap.mie) (recorded pc w Interrupted d v (entered x.pc external_interrupt x)) (recorded pc w Plain d v x)
+    (λ (y : Machine × Record). Sized y.0) (λ _. h) (λ _. h)
 
 pub step_sized : (line : Bool) (w : ℕ) (j : Judgement) (x : Machine) → Sized x → Sized (applied line w j x).0
 step_sized line w (Trap c) x h = h
@@ -100,9 +96,9 @@ only_writes_go_on line (Write rd v n) x f =
 pub result_is_written : (line : Bool) (w rd v n : ℕ) (x : Machine)
     → (applied line w (Write rd v n) x).0.registers ≡ with_register rd v x.registers
 result_is_written line w rd v n x =
-    by_cond (λ (y : Machine × Record). y.0.registers ≡ with_register rd v x.registers) (line && x.trap.mie)
-    (recorded x.pc w Interrupted rd (cond (eqb rd 0) 0 v) (entered n external_interrupt (written rd v n x)))
-    (recorded x.pc w Plain rd (cond (eqb rd 0) 0 v) (written rd v n x)) refl refl
+    cond_both (line && x.trap.mie) (recorded x.pc w Interrupted rd (cond (eqb rd 0) 0 v) (entered n external_interrupt (written rd v n x)))
+    (recorded x.pc w Plain rd (cond (eqb rd 0) 0 v) (written rd v n x))
+    (λ (y : Machine × Record). y.0.registers ≡ with_register rd v x.registers) (λ _. refl) (λ _. refl)
 
 module _ (served : Class → Bool) where
   -- so it is one step of the plan

@@ -1,5 +1,6 @@
 -- With nothing in flight a core is tied to the plan: so start and a retirement that drops everything make the tie.
 -- Assumes nothing.
+use Rattle.std.proofs.lemmas.Option.{none-some}
 use Rattle.std.proofs.Common.{◌≡◌, ℕ, Bool, true, false, None, sym, refl, ap, ◌∙◌, subst, arith}
 use Rattle.isa.specs.declared.operation.Class.{Class}
 use Rattle.isa.specs.declared.operation.Class.TheVariants.{Plain, Multiply, Divide, Transfer}
@@ -15,7 +16,6 @@ use Rattle.law.specs.Steps.{roomy, begun}
 use Rattle.law.proofs.Plan.{ahead, writer}
 use Rattle.law.proofs.Tied.{Shaped, Tied, StationTied, AllStations, slot_of}
 use Rattle.law.proofs.RegisterTags.{no_tag}
-use Rattle.law.proofs.Falls.{not_held}
 
 -- two tests that hold in the same cases
 same_test : (b c : Bool) → (b ≡ true → c ≡ true) → (c ≡ true → b ≡ true) → b ≡ c
@@ -37,7 +37,7 @@ module _ {A : Type 0} (m : UnitModel A) (served : Class → Bool) (stay : ℕ) w
             ap (λ x. tag_of x r) tags ∙ (no_tag r ∙ sym (ap (λ (n : ℕ). slot_of c.buffer (writer served c.machine r n)) none));
         work = record {
           stations = subst (λ x. AllStations (StationTied served c.buffer c.machine) x.places) (sym stations) tt;
-          jobs = λ t h e. not_held h (m.held u t) (empty t) e;
+          jobs = λ t h e. absurd (none-some h (sym (empty t) ∙ e));
           apart = subst (λ x. AllStations (λ s. m.held u s.tag ≡ None) x.places) (sym stations) tt;
           somewhere = λ i lt e. absurd (omega (arith, lt, none));
         };

@@ -18,7 +18,7 @@ use Rattle.law.specs.Steps.{asked, new_entry, needs_station, issued, sent, outco
 use Rattle.law.proofs.Tied.{InStation, StationTied, JobTied, Tied}
 use Rattle.law.proofs.Slots.{replaced_at, replaced_other, pushed_old}
 use Rattle.law.proofs.Places.{all_weaker, in_woken, free_if_none, job-tag}
-use Rattle.law.proofs.Falls.{not_held, was-held, Stays, stays-held, was_not_offered, holds_it}
+use Rattle.law.proofs.Falls.{was-held, Stays, stays-held, was_not_offered, holds_it}
 use Rattle.law.proofs.Issuing.{still_in, issue-keeps}
 use Rattle.law.proofs.Dispatching.{sender, takes}
 use Rattle.law.proofs.Rank.{DueWithin, Within, done, held, waiting, empty, nothing_held, within_one, head_goes, goes_with_room, room_when_empty}
@@ -36,8 +36,7 @@ module _ {A : Type 0} (m : UnitModel A) (keeps : Keeps m) (served : Class → Bo
     dispatch-within low gap n (held k some at le) =
         let from = sender m served stay c u u' j h is call in
         let other : slot_at c.buffer 0 ≡ j.tag → ⊥ = λ e.
-        not_held k (m.held u from.station.tag) from.free
-        (ap (m.held u) (sym (job-tag from.station j from.job) ∙ sym e) ∙ at) in
+        none-some k (sym from.free ∙ ap (m.held u) (sym (job-tag from.station j from.job) ∙ sym e) ∙ at) in
         let stays = taken (slot_at c.buffer 0) other k at in
         held stays.held some stays.is (omega (arith, stays.due, le))
     dispatch-within low gap n (waiting longest some at l dues le) =
@@ -85,8 +84,8 @@ module _ {A : Type 0} (m : UnitModel A) (keeps : Keeps m) (served : Class → Bo
           elim (after.work.somewhere 0 (omega arith) is) [
             | inl at ↦
                 waiting 1 (omega arith) at (omega arith)
-                (λ t k was. not_held k (m.held u t) (nothing_held m keeps served stay c u h none t) was) (omega (arith, le, g))
-            | inr k ↦ not_held k.0 (m.held u (slot_at c.buffer 0)) (nothing_held m keeps served stay c u h none (slot_at c.buffer 0)) k.1
+                (λ t k was. absurd (none-some k (sym (nothing_held m keeps served stay c u h none t) ∙ was))) (omega (arith, le, g))
+            | inr k ↦ absurd (none-some k.0 (sym (nothing_held m keeps served stay c u h none (slot_at c.buffer 0)) ∙ k.1))
           ]
 
   -- with nothing in flight there is a free station

@@ -1,6 +1,7 @@
 -- The laws of a step and of any number of steps.
 -- Assumes nothing.
-use Rattle.std.proofs.Common.{◌≡◌, ℕ, ◌%◌, Bool, true, false, cond, ◌&&◌, eqb, ◌≢◌, List, [], ◌∷◌, get_or, set, Some, None, Option, sym, refl, subst, inl, inr, arith, get_or-set_other}
+use Rattle.std.proofs.Common.{◌≡◌, ℕ, ◌%◌, Bool, cond, ◌&&◌, eqb, ◌≢◌, List, [], ◌∷◌, get_or, set, Some, None, Option, sym, refl, subst, inl, inr, arith, get_or-set_other}
+use Rattle.std.proofs.lemmas.Bool.{cond_both}
 use Rattle.std.proofs.lemmas.Bool.Decides.{nat_tests, eqb_tells}
 use Rattle.isa.specs.declared.instruction.Instruction.{Instruction}
 use Rattle.isa.specs.declared.operation.Class.{Class}
@@ -23,10 +24,6 @@ use Rattle.machine.specs.Laws.{TrapLeaves, Aligned, StepLaw}
 
 -- a step by its cases --------------------------------------------------------
 
-by_cond : {X : Type 0} (P : X → Type 0) (b : Bool) (x y : X) → P x → P y → P (cond b x y)
-by_cond P true x y h k = h
-by_cond P false x y h k = k
-
 by_eqb : {X : Type 0} (P : X → Type 0) (a b : ℕ) (x y : X) → (a ≡ b → P x) → ((a ≡ b → ⊥) → P y) → P (cond (eqb a b) x y)
 by_eqb P a b x y h k =
     elim (eqb_tells a b) [
@@ -39,7 +36,7 @@ by_line : (P : Machine × Record → Type 0) (line : Bool) (pc w d v : ℕ) (m :
     → P (recorded pc w Interrupted d v (entered m.pc external_interrupt m)) → P (recorded pc w Plain d v m)
     → P (settled line pc w d v m)
 by_line P line pc w d v m h k =
-    by_cond P (line && m.trap.mie) (recorded pc w Interrupted d v (entered m.pc external_interrupt m)) (recorded pc w Plain d v m) h k
+    cond_both (line && m.trap.mie) (recorded pc w Interrupted d v (entered m.pc external_interrupt m)) (recorded pc w Plain d v m) P (λ _. h) (λ _. k)
 
 -- the record and the registers ------------------------------------------------
 
@@ -60,18 +57,12 @@ ends line w (Write rd v n) m = by_line Ends line m.pc w rd (cond (eqb rd 0) 0 v)
 abbrev IfTrapped : Machine → Machine × Record → Type 0
 IfTrapped m x = x.1.outcome ≡ Trapped → TrapLeaves m x.1 x.0
 
-not_interrupted : {A : Type 0} → Interrupted ≡ Trapped → A
-not_interrupted e = let z : ◌≡◌ {A = ℕ} 0 1 = cc in absurd (omega arith)
-
-not_plain : {A : Type 0} → Plain ≡ Trapped → A
-not_plain e = let z : ◌≡◌ {A = ℕ} 0 1 = cc in absurd (omega arith)
-
 trapped : (line : Bool) (w : ℕ) (j : Judgement) (m : Machine) → IfTrapped m (applied line w j m)
 trapped line w (Trap c) m = λ e. record { registers = refl; mepc = refl; mcause = refl; handler = refl }
 trapped line w Return m =
-    by_line (IfTrapped m) line m.pc w 0 0 (returned m) (λ e. not_interrupted e) (λ e. not_plain e)
+    by_line (IfTrapped m) line m.pc w 0 0 (returned m) (λ e. absurd cc) (λ e. absurd cc)
 trapped line w (Write rd v n) m =
-    by_line (IfTrapped m) line m.pc w rd (cond (eqb rd 0) 0 v) (written rd v n m) (λ e. not_interrupted e) (λ e. not_plain e)
+    by_line (IfTrapped m) line m.pc w rd (cond (eqb rd 0) 0 v) (written rd v n m) (λ e. absurd cc) (λ e. absurd cc)
 
 -- with register 0 as destination the value does not matter
 no_write_at_0 : (rd v : ℕ) (rs : List ℕ) → with_register rd v rs ≡ with_register rd (cond (eqb rd 0) 0 v) rs
@@ -131,8 +122,8 @@ worked-lands : (i : Instruction) (pc a b : ℕ) → pc % 4 ≡ 0 → LandsOutcom
 worked-lands i pc a b h =
     let o = i.operation in
     let z = i.immediate in
-    by_cond LandsOutcome (departs o a b) (landed (value_of o z pc a b) (target_of o z pc a)) (Done (value_of o z pc a b) (sum pc 4))
-    (landed-lands (value_of o z pc a b) (target_of o z pc a)) (omega arith)
+    cond_both (departs o a b) (landed (value_of o z pc a b) (target_of o z pc a)) (Done (value_of o z pc a b) (sum pc 4)) LandsOutcome
+    (λ _. landed-lands (value_of o z pc a b) (target_of o z pc a)) (λ _. omega arith)
 
 outcome_lands : (rd : ℕ) (k : Option Class) (o : Outcome) → LandsOutcome o → Lands (judged_outcome rd (if_classed k o))
 outcome_lands rd None o h = tt

@@ -2,7 +2,7 @@
 ghost use Rattle.std.specs.Prelude.{◌≡◌, ◌≤◌, ◌++◌, length, drop};
 ghost use Rattle.machine.specs.Programs.{no_program, program_of, word_at};
 
-// A fixed table, since a core has no heap; load copies into it.
+// A fixed table, since machines are copied, and a vector of fixed room is not; load copies into it.
 #[derive(Clone, Copy)]
 pub struct Program {
     words: [u32; 1024],
@@ -38,11 +38,10 @@ impl Program {
         ensures { result ≡ word_at self.now address }
     {
         let index = (address / 4) as usize;
-        if address % 4 == 0 && index < self.len && index < 1024 {
-            Some(self.words[index])
-        } else {
-            None
+        if address % 4 != 0 || index >= self.len {
+            return None;
         }
+        self.words.get(index).copied()
     }
 }
 

@@ -42,6 +42,7 @@ impl Machine {
         }
     }
 
+    // Three parameters, since words, pc and vector are those of the published call.
     pub fn load(&mut self, words: &[u32], pc: u32, vector: u32) -> Result<(), LoadFault>
         ensures answer { result ≡ load_answer words.now pc vector }
         ensures state { self.new ≡ load_state words.now pc vector self.old }

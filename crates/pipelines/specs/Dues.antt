@@ -2,7 +2,9 @@
 -- Assumes nothing.
 use Rattle.std.specs.Prelude.{◌≡◌, ℕ, ◌+◌, ◌≤◌, max, cond, ◌≢◌, List, [], ◌∷◌, map, length, Some, None, Option, ◌==◌, refl}
 use Rattle.std.proofs.Common.{sym, subst, arith}
+use Rattle.std.proofs.lemmas.Option.{IfSome_then}
 use Rattle.std.specs.List.{AllByRecursion}
+use Rattle.std.specs.Option.{IfSome}
 use Rattle.units.specs.declared.job.Job.{Job}
 use Rattle.units.specs.Meaning.{Held, Fell, Holds}
 use Rattle.pipelines.specs.declared.queue.Timed.{Timed}
@@ -10,16 +12,8 @@ use Rattle.pipelines.specs.Queues.{fresh, pushed, ticked}
 use Rattle.pipelines.specs.Pipelines.{due_after, held_after, held_from}
 use Rattle.pipelines.specs.Cases.{by_eqb, both}
 
-abbrev pub IfHeld : (Held → Type 0) → Option Held → Type 0
-IfHeld P None = Unit {0}
-IfHeld P (Some h) = P h
-
-pub if_held : (P : Held → Type 0) (o : Option Held) (h : Held) → IfHeld P o → o ≡ Some h → P h
-if_held P o h p e = subst (IfHeld P) e p
-
-weaker : {P Q : Held → Type 0} (o : Option Held) → ((h : Held) → P h → Q h) → IfHeld P o → IfHeld Q o
-weaker None f p = tt
-weaker (Some h) f p = f h p
+pub if_held : (P : Held → Type 0) (o : Option Held) (h : Held) → IfSome o P → o ≡ Some h → P h
+if_held P o h p e = subst (λ x. IfSome x P) e p
 
 -- among n jobs behind one that is due at p: later than that, and at most n steps after it and the latency
 pub record InTurn (L p n t : ℕ) (h : Held) : Type 0 where
@@ -36,14 +30,13 @@ module _ (L : ℕ) where
   by_tag P p x xs t =
       by_eqb (λ b. P (cond b (Some (held_after L p x)) (held_from L (due_after L p x) xs t))) x.job.tag t
 
-  pub in_turn : (p : ℕ) (xs : List Timed) (t : ℕ) → IfHeld (InTurn L p (length xs) t) (held_from L p xs t)
+  pub in_turn : (p : ℕ) (xs : List Timed) (t : ℕ) → IfSome (held_from L p xs t) (InTurn L p (length xs) t)
   in_turn p [] t = tt
   in_turn p (x ∷ xs) t =
-      by_tag (IfHeld (InTurn L p (length (x ∷ xs)) t)) p x xs t
+      by_tag (λ o. IfSome o (InTurn L p (length (x ∷ xs)) t)) p x xs t
       (λ e. record { tagged = e; later = omega arith; soon = omega arith })
-      (λ _. weaker (held_from L (due_after L p x) xs t)
-      (λ h i. record { tagged = i.tagged; later = omega (arith, i.later); soon = omega (arith, i.soon) })
-      (in_turn (due_after L p x) xs t))
+      (λ _. IfSome_then (held_from L (due_after L p x) xs t) (in_turn (due_after L p x) xs t)
+      (λ h i. record { tagged = i.tagged; later = omega (arith, i.later); soon = omega (arith, i.soon) }))
 
   -- a step on, where what is in front is due k earlier
   pub falls : (k p p' : ℕ) → k ≤ 1 → p' + k ≤ p → (xs : List Timed) (t : ℕ)

@@ -2,6 +2,7 @@
 -- Assumes nothing.
 use Rattle.std.specs.Prelude.{◌≡◌, ℕ, ◌<◌, Bool, true, false, cond, List, [], ◌∷◌, length, Some, None, Option, nat_le, nat_lt, refl}
 use Rattle.std.proofs.Common.{sym, ap, subst, arith}
+use Rattle.std.proofs.lemmas.Option.{same_Some}
 use Rattle.std.proofs.lemmas.Bool.{and_parts, and_from, ltb-true, lt-ltb, eq-eqb}
 use Rattle.isa.specs.declared.operation.Class.{Class}
 use Rattle.isa.specs.declared.outcome.Outcome.{Outcome}
@@ -22,14 +23,11 @@ head-held : (L : ℕ) (x : Timed) (xs : List Timed)
     → held_from L 0 (x ∷ xs) x.job.tag ≡ Some (held_after L 0 x)
 head-held L x xs = rw (eq-eqb x.job.tag x.job.tag refl)
 
-some_is : {X : Type 0} (x y : X) → Some x ≡ Some y → x ≡ y
-some_is x y e = cc
-
 -- what is offered is a job's outcome, under its tag
 offer_of_lem : (j : Job) (r : Option Outcome) (b : Bool) (o : Offer) → cond b (offer_of j r) None ≡ Some o
     → (j.tag ≡ o.tag) × (r ≡ Some o.outcome)
 offer_of_lem j (Some v) true o e =
-    let i = some_is (record { tag = j.tag; outcome = v }) o e in
+    let i = same_Some (record { tag = j.tag; outcome = v }) o e in
     (ap (λ (x : Offer). x.tag) i, ap (λ (x : Offer). Some x.outcome) i)
 offer_of_lem j None true o e = absurd cc
 offer_of_lem j r false o e = absurd cc

@@ -47,9 +47,7 @@ fn next_job<U: Unit>(running: &Running<U>) -> Option<Job>
 pub(crate) fn dispatch<U: Unit>(running: &mut Running<U>) -> Result<u8, NoneGoes>
     ensures { DispatchCall U.Unit.means running.old result running.new }
 {
-    let Some(job) = next_job(running) else {
-        return Err(NoneGoes {});
-    };
+    let job = next_job(running).ok_or(NoneGoes {})?;
     // it has room: that is how the job was chosen
     let _ = running.unit.take(job);
     running.core.stations.free(job.tag);
@@ -70,12 +68,8 @@ pub(crate) fn complete<U: Unit>(running: &mut Running<U>) -> Option<u8>
 pub(crate) fn retire<U: Unit>(running: &mut Running<U>) -> Result<Record, RetireFault>
     ensures { RetireCall U.Unit.means running.old result running.new }
 {
-    let Some(entry) = running.core.buffer.oldest() else {
-        return Err(RetireFault::Empty);
-    };
-    let Some(judgement) = entry.result else {
-        return Err(RetireFault::HeadWaits);
-    };
+    let entry = running.core.buffer.oldest().ok_or(RetireFault::Empty)?;
+    let judgement = entry.result.ok_or(RetireFault::HeadWaits)?;
     if flight::diverts(&running.core, judgement) {
         running.unit.clear();
         Ok(flight::flush(&mut running.core, entry, judgement))

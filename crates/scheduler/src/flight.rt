@@ -1,12 +1,11 @@
 // What the calls do to the core without its unit.
 ghost use Rattle.std.specs.Prelude.{◌≡◌, Some};
 ghost use Rattle.machine.specs.Step.{word_or0};
-ghost use Rattle.law.specs.Steps.{brings, operand_of, fetched_word, entry_for, new_station, needs_station, stations_for, issue_answer, outcome_brings, completed_by, diverts, stepped, retired_on, flushed};
+ghost use Rattle.law.specs.Steps.{brings, operand_of, fetched_word, entry_for, new_station, needs_station, stations_for, issue_answer, completed_by, diverts, stepped, retired_on, flushed};
 ghost use Rattle.scheduler.specs.Flights.{issue_state, with_stations};
 
 use isa::instruction::Instruction;
 use isa::operation::Class;
-use isa::outcome::Outcome;
 use law::state::Core;
 use machine::decode::{Decoded, decode};
 use machine::judgement::Judgement;
@@ -24,15 +23,6 @@ fn brought(judgement: Judgement) -> u32
     match judgement {
         Judgement::Write { value, .. } => value,
         Judgement::Trap(_) | Judgement::Return => 0,
-    }
-}
-
-fn outcome_brought(outcome: Outcome) -> u32
-    ensures { result ≡ outcome_brings outcome }
-{
-    match outcome {
-        Outcome::Done { value, .. } => value,
-        Outcome::Misaligned => 0,
     }
 }
 
@@ -124,9 +114,9 @@ pub(crate) fn finish(core: &mut Core, offer: Offer)
 {
     let Offer { tag, outcome } = offer;
     let destination = core.buffer.entry(tag).destination;
-    core.buffer
-        .finish(tag, judge_outcome(destination, Some(outcome)));
-    core.stations.wake(tag, outcome_brought(outcome));
+    let judgement = judge_outcome(destination, Some(outcome));
+    core.buffer.finish(tag, judgement);
+    core.stations.wake(tag, brought(judgement));
 }
 
 // Nothing younger may go on after a trap, MRET, an interrupt, or to an address other than pc + 4.

@@ -34,7 +34,7 @@ impl<U: Unit> Stopped<U> {
         }
     }
 
-    // Copies the words; registers and trap state start afresh, and the line is down.
+    // Copies the words; registers and trap state start afresh, and the line is down. The parameters are those of the published call.
     pub fn load(&mut self, words: &[u32], pc: u32, vector: u32) -> Result<(), LoadFault>
         ensures answer { result ≡ load_answer words.now pc vector }
         ensures state { self.new.state ≡ loaded words.now pc vector self.old.state }

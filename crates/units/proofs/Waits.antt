@@ -2,6 +2,7 @@
 -- Assumes nothing.
 use Rattle.std.proofs.Common.{◌≡◌, ℕ, ◌+◌, ◌≤◌, Bool, true, false, ◌⊎◌, Some, None, Option, sym, refl, ap, ◌∙◌, subst, inl, inr, arith}
 use Rattle.std.proofs.lemmas.Bool.{eqb-true, false≢true}
+use Rattle.std.proofs.lemmas.Option.{none-some}
 use Rattle.units.specs.declared.job.Job.{Job}
 use Rattle.units.specs.declared.job.Offer.{Offer}
 use Rattle.units.specs.Jobs.{job_outcome}
@@ -16,12 +17,9 @@ pub record DueIn (n : ℕ) (j : Job) (o : Option Held) : Type 0 where
   pub same : held.job ≡ j
   pub due : held.due ≤ n
 
-not_none : {X : Type 0} (h : Held) (o : Option Held) → o ≡ None → o ≡ Some h → X
-not_none h o e f = absurd cc
-
 -- where the dues fell by k, the job is due k steps sooner
 after_fall : (k p n : ℕ) (j : Job) (o o' : Option Held) → p ≤ n + k → Fell k o o' → DueIn p j o → DueIn n j o'
-after_fall k p n j None o' le f d = not_none d.held None refl d.is
+after_fall k p n j None o' le f d = absurd (none-some d.held d.is)
 after_fall k p n j (Some h) None le f d = absurd f
 after_fall k p n j (Some h) (Some h') le f d =
     let whole : h ≡ d.held = let e = d.is in cc in
@@ -41,7 +39,7 @@ module _ {A : Type 0} (m : UnitModel A) (keeps : Keeps m) (j : Job) where
   after_take : (n : ℕ) (u : A) (k : Job) (u' : A) (b : Bool) → room_for m u k.word ≡ b → m.sound u
       → Fresh m u k → Taken m b u k u' → Due n u → Due n u' × m.sound u'
   after_take n u k u' true e s fresh t d =
-      let other : j.tag ≡ k.tag → ⊥ = λ q. not_none d.held (m.held u k.tag) (fresh e) (ap (m.held u) (sym q) ∙ d.is) in
+      let other : j.tag ≡ k.tag → ⊥ = λ q. absurd (none-some d.held (sym (fresh e) ∙ ap (m.held u) (sym q) ∙ d.is)) in
       let joined = t s (fresh e) in
       (after_fall 0 n n j (m.held u j.tag) (m.held u' j.tag) (omega arith) (joined.0.others j.tag other) d, joined.1)
   after_take n u k u' false e s fresh t d = (subst (Due n) (sym t) d, subst m.sound (sym t) s)
