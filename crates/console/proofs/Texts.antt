@@ -1,20 +1,21 @@
 -- How the definitions of digits and lines go on one byte further.
 -- Assumes nothing.
-use Rattle.std.proofs.Common.{◌≡◌, ℕ, zero, suc, ◌+◌, ◌-◌, ◌*◌, ◌^◌, ◌<◌, ◌≤◌, true, false, not, eqb, ltb, List, [], ◌∷◌, ◌++◌, length, get_or, take, drop, Some, None, Ok, Err, Option, Result, leb, sym, refl, ap, ◌∙◌, ⊎_elim, zero-lt-suc, mul-zero, sub-add_cancel, le-mul_of_pos_right, arith}
+use Rattle.std.proofs.Common.{◌≡◌, ℕ, Bool, cond, zero, suc, ◌+◌, ◌-◌, ◌*◌, ◌^◌, ◌<◌, ◌≤◌, true, false, not, eqb, ltb, List, [], ◌∷◌, ◌++◌, length, get_or, take, drop, Some, None, Ok, Err, Option, Result, leb, sym, refl, ap, ◌∙◌, ⊎_elim, zero-lt-suc, mul-zero, le-mul_of_pos_right, arith}
 use native.Mathlib.Nat.{pow-le-pow_right}
 use Rattle.std.specs.Str.Parse.{digits_value, digits_value_after, AllDigits}
 use Rattle.std.specs.Char.{digit_value}
 use Rattle.std.proofs.lemmas.Int.Digits.{digits_value-lt}
 use Rattle.std.proofs.lemmas.List.{at_drop_more, at_drop_all, take_more, take_all}
-use Rattle.std.proofs.lemmas.Bool.{cond-true, cond-false, lt-ltb, le-ltb, lt-leb, le-leb, cases_lt}
+use Rattle.std.proofs.lemmas.Bool.{cases_Bool, cond-true, cond-false, lt-ltb, le-ltb, lt-leb, le-leb, cases_lt}
 use Rattle.std.proofs.lemmas.Bool.Decides.{nat_tests}
-use Rattle.std.specs.List.{position, position_or_len}
+use Rattle.std.proofs.lemmas.List.Sums.{suffix_len-take_yes, suffix_len-take_no}
+use Rattle.std.specs.List.{prefix_len, suffix_len, position, position_or_len}
 use Rattle.std.specs.Option.{ok_or}
 use Rattle.std.proofs.lemmas.Option.{none-some, cond_some}
 use Rattle.console.specs.declared.digits.DigitsFault.{DigitsFault}
 use Rattle.console.specs.declared.digits.DigitsFault.TheVariants.{TooLarge}
 use Rattle.console.specs.Digits.{first_stranger, value64, digits_or_fault, parsed}
-use Rattle.console.specs.Lines.{blank, before, trimmed_back, before_kept, word_fault, hex_or_fault, hex_word}
+use Rattle.console.specs.Lines.{blank, before, trimmed_front, trimmed_back, before_kept, word_fault, hex_or_fault, hex_word}
 
 pub value_step : (r t : ℕ) (xs : List ℕ) (i : ℕ) → i < length xs → digits_value_after r t (drop i xs) ≡ digits_value_after r (t * r + digit_value (get_or xs i 0)) (drop (i + 1) xs)
 value_step r t xs i h = at_drop_more (digits_value_after r t) xs i 0 h
@@ -82,17 +83,31 @@ pub trimmed_back_kept : (xs : List ℕ) (c : ℕ) → blank c ≡ false → trim
 trimmed_back_kept [] c e = cond-false (blank c) [] (c ∷ []) e
 trimmed_back_kept (x ∷ xs) c e = ap (before_kept x) (trimmed_back_kept xs c e) ∙ before-some x xs c
 
-front_and_last : (xs : List ℕ) → 0 < length xs → take (length xs - 1) xs ++ (get_or xs (length xs - 1) 0 ∷ []) ≡ xs
-front_and_last xs p =
-    sym (take_more xs (length xs - 1) 0 (omega arith)) ∙ ap (λ k. take k xs) (sub-add_cancel p) ∙ take_all (length xs) xs (omega arith)
+front_step : (b : Bool) (x : ℕ) (xs front : List ℕ) → drop (prefix_len blank xs) xs ≡ front → drop (cond b (1 + prefix_len blank xs) 0) (x ∷ xs) ≡ cond b front (x ∷ xs)
+front_step true x xs front e = let on : 1 + prefix_len blank xs ≡ suc (prefix_len blank xs) = omega arith in ap (λ n. drop n (x ∷ xs)) on ∙ e
+front_step false x xs front e = refl
 
-pub trimmed_back_past : (xs : List ℕ) → 0 < length xs → blank (get_or xs (length xs - 1) 0) ≡ true → trimmed_back (take (length xs - 1) xs) ≡ trimmed_back xs
-trimmed_back_past xs p e =
-    sym (trimmed_back-blank (take (length xs - 1) xs) (get_or xs (length xs - 1) 0) e) ∙ ap trimmed_back (front_and_last xs p)
+pub trimmed_front_is : (xs : List ℕ) → drop (prefix_len blank xs) xs ≡ trimmed_front xs
+trimmed_front_is [] = refl
+trimmed_front_is (x ∷ xs) = front_step (blank x) x xs (trimmed_front xs) (trimmed_front_is xs)
 
-pub trimmed_back_here : (xs : List ℕ) → 0 < length xs → blank (get_or xs (length xs - 1) 0) ≡ false → trimmed_back xs ≡ xs
-trimmed_back_here xs p e =
-    ap trimmed_back (sym (front_and_last xs p)) ∙ trimmed_back_kept (take (length xs - 1) xs) (get_or xs (length xs - 1) 0) e ∙ front_and_last xs p
+back_until : (xs : List ℕ) (n : ℕ) → n ≤ length xs → take (n - suffix_len blank (take n xs)) xs ≡ trimmed_back (take n xs)
+back_until xs zero h = refl
+back_until xs (suc n) h =
+    let c = get_or xs n 0 in
+    let on : suc n ≡ n + 1 = omega arith in
+    let last : suc n - 1 ≡ n = omega arith in
+    let more : take (suc n) xs ≡ take n xs ++ c ∷ [] = ap (λ k. take k xs) on ∙ take_more xs n 0 (omega arith) in
+    ⊎_elim (λ e.
+    let s : suc n - suffix_len blank (take (suc n) xs) ≡ n - suffix_len blank (take n xs) = omega (arith, suffix_len-take_yes blank xs (suc n) 0 (omega arith) h (ap (λ k. blank (get_or xs k 0)) last ∙ e), ap (λ k. suffix_len blank (take k xs)) last) in
+    ap (λ k. take k xs) s ∙ back_until xs n (omega arith) ∙ sym (trimmed_back-blank (take n xs) c e) ∙ ap trimmed_back (sym more))
+    (λ e.
+    let s : suc n - suffix_len blank (take (suc n) xs) ≡ suc n = omega (arith, suffix_len-take_no blank xs (suc n) 0 (omega arith) h (ap (λ k. blank (get_or xs k 0)) last ∙ e)) in
+    ap (λ k. take k xs) s ∙ more ∙ sym (trimmed_back_kept (take n xs) c e) ∙ ap trimmed_back (sym more))
+    (cases_Bool (blank c))
+
+pub trimmed_back_is : (xs : List ℕ) → take (length xs - suffix_len blank xs) xs ≡ trimmed_back xs
+trimmed_back_is xs = ap (λ l. take (length xs - suffix_len blank l) xs) (sym (take_all (length xs) xs (omega arith))) ∙ back_until xs (length xs) (omega arith) ∙ ap trimmed_back (take_all (length xs) xs (omega arith))
 
 word_value : (ds : List ℕ) → first_stranger 16 ds ≡ None → length ds ≤ 8 → value64 16 ds ≡ Some (digits_value 16 ds)
 word_value ds e h = cond-true (ltb (digits_value 16 ds) (2 ^ 64)) (Some (digits_value 16 ds)) None (lt-ltb (digits_value 16 ds) (2 ^ 64) (omega (arith, word_fits ds e h)))
