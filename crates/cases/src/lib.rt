@@ -25,7 +25,7 @@ mod instructions {
         }
     }
 
-    // The word, or the number of the refusal.
+    // The word, or the refusal's published number, by which refusals are compared.
     fn written(instruction: Instruction) -> Result<u32, u8> {
         write(instruction).map_err(|fault| fault.number())
     }
@@ -83,6 +83,7 @@ mod instructions {
 #[cfg(test)]
 mod machine_steps {
     use machine::classes::Classes;
+    use machine::record::Retirement;
     use machine::state::Machine;
     use refusal::LoadFault;
     use report::loads::RefusedLoad;
@@ -91,7 +92,7 @@ mod machine_steps {
     // ADDI x1, x0, 5; ADDI x2, x0, 7; MUL x3, x1, x2
     const PRODUCT: [u32; 3] = [0x0050_0093, 0x0070_0113, 0x0220_81b3];
 
-    // The number of the refusal, if any.
+    // Refusals are compared by their published numbers.
     fn loaded(words: &[u32], pc: u32, vector: u32) -> Result<(), u8> {
         Machine::new()
             .load(words, pc, vector)
@@ -112,14 +113,14 @@ mod machine_steps {
             let _ = machine.step(Classes::ALL, false);
         }
         let record = machine.step(Classes::ALL, false);
+        assert_eq!(rt; record.outcome, Retirement::Trapped);
         assert_eq!(rt;
             [
                 machine.register(3).unwrap_or(0),
-                u32::from(record.outcome.number()),
                 record.value,
                 machine.trap_state().mepc,
             ],
-            [35, 1, 1, 12]
+            [35, 1, 12]
         );
     }
 
@@ -130,21 +131,22 @@ mod machine_steps {
             ..Classes::ALL
         };
         let record = product(8).step(served, false);
-        assert_eq!(rt; [u32::from(record.outcome.number()), record.value], [1, 2]);
+        assert_eq!(rt; record.outcome, Retirement::Trapped);
+        assert_eq!(rt; record.value, 2);
     }
 
     #[test]
     fn an_interrupt_follows_the_instruction(rt: HostRuntime) {
         let mut machine = product(0);
         let record = machine.step(Classes::ALL, true);
+        assert_eq!(rt; record.outcome, Retirement::Interrupted);
         assert_eq!(rt;
             [
-                u32::from(record.outcome.number()),
                 record.next,
                 machine.trap_state().mepc,
                 machine.register(1).unwrap_or(0),
             ],
-            [2, 0, 4, 5]
+            [0, 4, 5]
         );
     }
 
@@ -211,6 +213,46 @@ mod arguments_and_texts {
                     fault: OptionFault::Unknown
                 })
             )
+        );
+        Ok(())
+    }
+}
+
+#[cfg(test)]
+mod refused_runs {
+    use command::argument::ArgumentLine;
+    use command::exit::said;
+    use engines::begin;
+    use machine::state::Machine;
+    use refusal::{LoadFault, NoRegister};
+    use report::stops::Stop;
+    use std::test::Fail;
+
+    #[test]
+    fn a_fault_said(rt: HostRuntime) {
+        let stop = said(rt.alloc(), NoRegister { register: 32 });
+        assert!(rt; matches!(&stop, Stop::Said(line) if line.as_str() == "3 no register"));
+    }
+
+    #[test]
+    fn a_load_refused(rt: HostRuntime) {
+        let begun = begin(rt.alloc(), Machine::new(), &[0x0000_0073], 0, 6);
+        assert!(rt;
+            matches!(&begun, Err(Stop::Said(line)) if line.as_str() == "--vector 6: 2 skew")
+        );
+    }
+
+    #[test]
+    fn an_argument_refused(rt: HostRuntime) -> Result<(), Fail> {
+        let texts = [String::from_str(rt.alloc(), "--pc")?];
+        let text = format!(in rt.alloc();
+            "{}; {}",
+            ArgumentLine::new(&texts, 1, LoadFault::Skew),
+            ArgumentLine::new(&texts, 2, LoadFault::Skew)
+        )?;
+        assert_eq!(rt;
+            text.as_str(),
+            "argument 1, `--pc`: 2 skew; argument 2: 2 skew"
         );
         Ok(())
     }

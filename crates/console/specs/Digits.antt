@@ -1,20 +1,16 @@
 -- Digits of a base, by std's `digit_value`: 0 to 9, then letters of either case from 10 on, and 36 for any other byte.
 -- Assumes nothing.
-use Rattle.std.specs.Prelude.{ℕ, ◌^◌, min, Bool, cond, ◌&&◌, List, [], ◌∷◌, drop, Some, None, Err, Option, Result, ◌==◌, nat_lt, slice_index}
+use Rattle.std.specs.Prelude.{ℕ, ◌^◌, Bool, not, cond, ◌&&◌, List, [], ◌∷◌, drop, Some, None, Err, Option, Result, ◌==◌, nat_lt, slice_index}
 use Rattle.std.specs.List.{find}
-use Rattle.std.specs.Option.{is_none, ok_or}
+use Rattle.std.specs.Option.{ok_or}
 use Rattle.std.specs.Str.Parse.{digits_value}
 use Rattle.std.specs.Char.{digit_value}
 use Rattle.console.specs.declared.digits.DigitsFault.{DigitsFault}
 use Rattle.console.specs.declared.digits.DigitsFault.TheVariants.{NoDigits, NotADigit, TooLarge}
 
--- the digit that a byte writes, if it is one of the base; no base has more than 36
-abbrev pub digit_of : ℕ → ℕ → Option ℕ
-digit_of radix c = cond (nat_lt (digit_value c) (min radix 36)) (Some (digit_value c)) None
-
 -- the first byte that is no digit of the base
 abbrev pub first_stranger : ℕ → List ℕ → Option ℕ
-first_stranger radix ds = find (λ c. is_none (digit_of radix c)) ds
+first_stranger radix ds = find (λ c. not (nat_lt (digit_value c) radix)) ds
 
 -- the number that the digits write, if 64 bits hold it
 abbrev pub value64 : ℕ → List ℕ → Option ℕ

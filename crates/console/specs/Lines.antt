@@ -1,6 +1,7 @@
 -- A line of program text: a word in hex digits, or nothing, with a comment from `#` on.
 -- Assumes nothing.
 use Rattle.std.specs.Prelude.{ℕ, Bool, cond, ◌||◌, List, [], ◌∷◌, length, Some, None, Ok, Err, Option, Result, ◌==◌, nat_le}
+use Rattle.std.specs.List.{before_first}
 use Rattle.std.specs.Option.{unwrap_or}
 use Rattle.std.specs.Str.Parse.{digits_value}
 use Rattle.console.specs.declared.lines.WordFault.{WordFault}
@@ -15,8 +16,7 @@ blank c = c == 32 || (c == 9 || c == 13)
 
 -- what stands before the first b, or all of it where there is none
 abbrev pub before : ℕ → List ℕ → List ℕ
-before b [] = []
-before b (c ∷ cs) = cond (c == b) [] (c ∷ before b cs)
+before b bs = before_first (λ c. c == b) bs
 
 -- what stands before the comment, which `#` begins
 abbrev pub uncommented : List ℕ → List ℕ

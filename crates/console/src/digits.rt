@@ -1,7 +1,8 @@
 // A number in the digits of a base.
-ghost use Rattle.std.specs.Prelude.{◌≡◌, None};
+ghost use Rattle.std.specs.Prelude.{◌≡◌};
+ghost use Rattle.std.specs.Char.{digit_value};
 ghost use Rattle.std.specs.Option.{option_map};
-ghost use Rattle.console.specs.Digits.{digit_of, first_stranger, value64, parsed, after_mark};
+ghost use Rattle.console.specs.Digits.{first_stranger, value64, parsed, after_mark};
 
 #[derive(Clone, Copy)]
 pub enum DigitsFault {
@@ -12,11 +13,11 @@ pub enum DigitsFault {
     TooLarge,
 }
 
-// None for a byte that is no digit of the base.
-fn digit(radix: u32, byte: u8) -> Option<u32>
-    ensures { result ≡ digit_of radix byte }
+// 36 for a byte that is no digit of any base. `to_digit(radix)` would ask for a base from 2 to 36.
+fn digit_value(byte: u8) -> u32
+    ensures { result ≡ digit_value byte }
 {
-    char::from(byte).to_digit(36).filter(|digit| *digit < radix)
+    char::from(byte).to_digit(36).unwrap_or(36)
 }
 
 fn first_stranger(radix: u32, digits: &[u8]) -> Option<u8>
@@ -25,18 +26,17 @@ fn first_stranger(radix: u32, digits: &[u8]) -> Option<u8>
     digits
         .iter()
         .copied()
-        .find(|byte| digit(radix, *byte).is_none())
+        .find(|byte| digit_value(*byte) >= radix)
 }
 
-// The value of a text of digits, or None where 64 bits do not hold it.
+// None where 64 bits do not hold the value. `u64::from_str_radix` takes a str, and these are bytes.
 fn value(radix: u32, digits: &[u8]) -> Option<u64>
-    ensures { first_stranger radix digits.now ≡ None → result ≡ value64 radix digits.now }
+    ensures { result ≡ value64 radix digits.now }
 {
     let mut total = 0u64;
     for byte in digits {
-        let digit = digit(radix, *byte)?;
         let shifted = total.checked_mul(u64::from(radix))?;
-        total = shifted.checked_add(u64::from(digit))?;
+        total = shifted.checked_add(u64::from(digit_value(*byte)))?;
     }
     Some(total)
 }

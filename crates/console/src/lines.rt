@@ -40,31 +40,22 @@ fn text_before(byte: u8, text: &[u8]) -> &[u8]
     }
 }
 
-// From the front, and below from the back: which end it is, only the pattern can say.
 fn trim_front(text: &[u8]) -> &[u8]
     ensures { result.now ≡ trimmed_front text.now }
 {
-    let mut left = text;
-    while let [first, rest @ ..] = left {
-        if !is_blank(*first) {
-            break;
-        }
-        left = rest;
-    }
-    left
+    let blanks = text.iter().take_while(|byte| is_blank(**byte)).count();
+    &text[blanks..]
 }
 
 fn trim_back(text: &[u8]) -> &[u8]
     ensures { result.now ≡ trimmed_back text.now }
 {
-    let mut left = text;
-    while let [rest @ .., last] = left {
-        if !is_blank(*last) {
-            break;
-        }
-        left = rest;
-    }
-    left
+    let blanks = text
+        .iter()
+        .rev()
+        .take_while(|byte| is_blank(**byte))
+        .count();
+    &text[..text.len() - blanks]
 }
 
 fn parse_hex_word(text: &[u8]) -> Result<u32, WordFault>

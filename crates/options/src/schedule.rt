@@ -13,13 +13,9 @@ pub struct LineEvent {
 pub fn line_stands(events: &[LineEvent], retired: u64) -> bool
     ensures { result ≡ line_stands events.now retired }
 {
-    let mut since = 0;
-    let mut line = false;
-    for event in events {
-        if event.after <= retired && since <= event.after {
-            since = event.after;
-            line = event.up;
-        }
-    }
-    line
+    events
+        .iter()
+        .filter(|event| event.after <= retired)
+        .max_by_key(|event| event.after)
+        .is_some_and(|event| event.up)
 }

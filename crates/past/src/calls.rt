@@ -2,7 +2,7 @@
 ghost use Rattle.std.specs.Prelude.{◌≡◌, ◌≤◌, length};
 ghost use Rattle.std.specs.List.{position_or_len};
 ghost use Rattle.past.specs.declared.calls.CallFault.TheVariants.{BadNumber};
-ghost use Rattle.past.specs.declared.calls.LineFault.TheVariants.{BadWord};
+ghost use Rattle.past.specs.declared.calls.LineFault.TheVariants.{BadWord, BadCall};
 ghost use Rattle.past.specs.Calls.{gap, first_field, after_field, alone, number_field, run_call, call_named, line_call, first_line};
 
 use console::lines::{WordFault, line_text, parse_line};
@@ -49,6 +49,14 @@ impl From<NumberFault> for CallFault {
     }
 }
 
+impl From<CallFault> for LineFault {
+    ghost from_gives = { λ fault r. r ≡ BadCall fault };
+
+    fn from(fault: CallFault) -> LineFault {
+        LineFault::BadCall(fault)
+    }
+}
+
 impl From<WordFault> for LineFault {
     ghost from_gives = { λ fault r. r ≡ BadWord fault };
 
@@ -60,7 +68,7 @@ impl From<WordFault> for LineFault {
 fn is_gap(byte: u8) -> bool
     ensures { result ≡ gap byte }
 {
-    byte == b' ' || byte == b'\t'
+    matches!(byte, b' ' | b'\t')
 }
 
 // Where the first gap is, or the length where there is none.
@@ -146,8 +154,7 @@ pub fn parse_first(line: &[u8]) -> Result<Option<Line>, LineFault>
     ensures { result ≡ first_line line.now }
 {
     match parse_call(line) {
-        Ok(call) => Ok(call.map(Line::Call)),
         Err(CallFault::Unknown) => Ok(parse_line(line)?.map(Line::Word)),
-        Err(fault) => Err(LineFault::BadCall(fault)),
+        call => Ok(call?.map(Line::Call)),
     }
 }

@@ -12,7 +12,7 @@ use std::fmt;
 #[derive(Clone, Copy)]
 pub enum LoadFault {
     // more words than the program table holds
-    Overlong,
+    Overlong = 1,
     // pc or vector is no multiple of 4
     Skew,
 }
@@ -21,10 +21,7 @@ impl LoadFault {
     pub fn number(self) -> u8
         ensures { result ≡ load_fault_number self }
     {
-        match self {
-            LoadFault::Overlong => 1,
-            LoadFault::Skew => 2,
-        }
+        self as u8
     }
 }
 
@@ -87,7 +84,7 @@ impl fmt::Display for NoRegister {
 #[derive(Clone, Copy)]
 pub enum IssueFault {
     // 16 entries are in flight
-    BufferFull,
+    BufferFull = 10,
     // the word needs a reservation station, and none is free
     NoStation,
 }
@@ -96,10 +93,7 @@ impl IssueFault {
     pub fn number(self) -> u8
         ensures { result ≡ issue_fault_number self }
     {
-        match self {
-            IssueFault::BufferFull => 10,
-            IssueFault::NoStation => 11,
-        }
+        self as u8
     }
 }
 
@@ -138,7 +132,7 @@ impl fmt::Display for NoneGoes {
 #[derive(Clone, Copy)]
 pub enum RetireFault {
     // nothing is in flight
-    Empty,
+    Empty = 13,
     // the oldest instruction is not done
     HeadWaits,
 }
@@ -147,10 +141,7 @@ impl RetireFault {
     pub fn number(self) -> u8
         ensures { result ≡ retire_fault_number self }
     {
-        match self {
-            RetireFault::Empty => 13,
-            RetireFault::HeadWaits => 14,
-        }
+        self as u8
     }
 }
 
@@ -188,7 +179,7 @@ impl fmt::Display for NoRoom {
 // An instruction that no word holds.
 #[derive(Clone, Copy)]
 pub enum WriteFault {
-    BadRegister,
+    BadRegister = 20,
     BadImmediate,
 }
 
@@ -196,10 +187,7 @@ impl WriteFault {
     pub fn number(self) -> u8
         ensures { result ≡ write_fault_number self }
     {
-        match self {
-            WriteFault::BadRegister => 20,
-            WriteFault::BadImmediate => 21,
-        }
+        self as u8
     }
 }
 

@@ -43,6 +43,7 @@ mod refusals {
         Err(Fail::new("no refusal"))
     }
 
+    // A test for each refusal of issue.
     #[test]
     fn the_ninth_addi_finds_no_station(rt: HostRuntime) -> Result<(), Fail> {
         assert_eq!(rt; issued(&[0x0050_0093; 9])?, (8, 11));
@@ -92,7 +93,7 @@ mod budgets {
         assert!(rt; suffices(Plain::new(), 5)?);
         assert!(rt; suffices(Multiplier::new(), 15)?);
         assert!(rt; suffices(Divider::new(), 67)?);
-        assert!(rt; suffices(piles::all(), 133)?);
+        assert!(rt; suffices(piles::all(), piles::LONGEST_WAIT)?);
         assert!(rt; suffices(piles::deep(), 265)?);
         Ok(())
     }
@@ -108,7 +109,7 @@ mod budgets {
         Ok(())
     }
 
-    // A product is offered three steps later, a quotient 32.
+    // A product is offered three steps later, a quotient 32: a line for each budget, the last that is too short and the first that is not.
     #[test]
     fn a_budget_of_one_cycle_less(rt: HostRuntime) -> Result<(), Fail> {
         assert_eq!(rt; run(Multiplier::new(), &[0x0210_8133], 1, 6)?, (6, 0));
@@ -176,7 +177,7 @@ mod interrupts {
     // 21 retirements lead to the ECALL, and then its trap, the handler's ADDI and the MRET take turns. Of these the MRET
     // alone is interrupted: a trap never is, and the handler runs with MIE 0.
     fn taken(up: u32) -> u32 {
-        if up < 21 || up % 3 == 2 { 1 } else { 0 }
+        u32::from(up < 21 || up % 3 == 2)
     }
 
     #[test]
