@@ -10,7 +10,7 @@ use report::stops::Stop;
 use std::fmt;
 use std::str::FromStr;
 
-// The unit under the core. `watch` takes `single` too, and needs no type for the names: it runs the unit where it reads one.
+// The unit under the core. `watch` takes `single` too, by the name alone: it runs the unit where it reads one.
 #[derive(Clone, Copy)]
 pub enum Kind {
     Plain,

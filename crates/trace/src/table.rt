@@ -6,7 +6,7 @@ use report::hex::Hex8;
 use std::alloc::{AllocError, Global};
 use words::read;
 
-// What stands above the rows. By a match, as in `write_record`: it is one of two texts, and a closure would hold nothing.
+// What stands above the rows. By a match, as in `write_record`: it is one of two texts.
 pub(crate) fn heading(report: Report) -> &'static str {
     match report {
         Report::Table =>
