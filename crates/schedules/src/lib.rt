@@ -94,7 +94,7 @@ mod budgets {
         assert!(rt; suffices(Multiplier::new(), 15)?);
         assert!(rt; suffices(Divider::new(), 67)?);
         assert!(rt; suffices(piles::all(), piles::LONGEST_WAIT)?);
-        assert!(rt; suffices(piles::deep(), 265)?);
+        assert!(rt; suffices(piles::deep(), piles::DEEP_LONGEST_WAIT)?);
         Ok(())
     }
 
