@@ -11,10 +11,9 @@ use std::process::ExitCode;
 pub fn said<T: fmt::Display + Drop>(heap: Global, fault: T) -> Stop
     ensures { Says (T.output fault) result }
 {
-    match fault.to_string(heap) {
-        Ok(line) => Stop::Said(line),
-        Err(error) => Stop::NoMemory(error),
-    }
+    fault
+        .to_string(heap)
+        .map_or_else(Stop::NoMemory, Stop::Said)
 }
 
 pub fn exit_code(rt: &HostRuntime, name: &str, outcome: Result<(), Stop>) -> ExitCode

@@ -18,7 +18,7 @@ use std::io;
 use std::process::ExitCode;
 use units::unit::Unit;
 
-// A core that has no program yet.
+// Replays on a core over the unit.
 fn replay_core<U: Unit + Drop>(
     rt: &HostRuntime,
     name: &str,

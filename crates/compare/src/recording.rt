@@ -1,4 +1,7 @@
 // What another simulator did with a program, from text: one keyword a line, and the records as they stand.
+ghost use Rattle.std.specs.Prelude.{◌≡◌};
+ghost use Rattle.compare.specs.declared.recording.LineFault.TheVariants.{BadNumber, NoMemory};
+
 use console::numbers::NumberFault;
 use options::addresses::parse_address;
 use options::schedule::LineEvent;
@@ -27,18 +30,23 @@ pub enum LineFault {
 }
 
 impl From<NumberFault> for LineFault {
+    ghost from_gives = { λ number fault. fault ≡ BadNumber number };
+
     fn from(fault: NumberFault) -> LineFault {
         LineFault::BadNumber(fault)
     }
 }
 
 impl<T: Drop> From<AllocFailed<T>> for LineFault {
+    ghost from_gives = { λ _ fault. fault ≡ NoMemory };
+
     fn from(_failed: AllocFailed<T>) -> LineFault {
         LineFault::NoMemory
     }
 }
 
-// The line that is none of a recording, counted from 1, or for which memory ran out. Only its number is shown.
+// The line that is none of a recording, counted from 1, or for which memory ran out. Only its number is shown; the
+// fault is there for `?`.
 #[derive(Clone, Copy)]
 pub struct BadLine {
     pub number: usize,

@@ -40,6 +40,7 @@ fn text_before(byte: u8, text: &[u8]) -> &[u8]
     }
 }
 
+// Not `trim_ascii`, here and below: it takes a line feed and a form feed for blanks too.
 fn trim_front(text: &[u8]) -> &[u8]
     ensures { result.now ≡ trimmed_front text.now }
 {

@@ -20,7 +20,7 @@ fn less(x: u32, y: u32) -> bool
     x.cast_signed() < y.cast_signed()
 }
 
-// Not by `checked_div`, which refuses -2^31 by -1 too, and nor is the remainder by `checked_rem`.
+// Not by `checked_div`, which refuses -2^31 by -1 too; nor the remainder by `checked_rem`.
 fn quotient(x: u32, y: u32) -> u32
     ensures { result ≡ quotient x y }
 {

@@ -1,4 +1,4 @@
-// An instruction: an operation with its registers and its immediate, 0 where the operation lacks one, since words are written of those.
+// An instruction: an operation with its registers and its immediate. What the operation lacks is 0, as words are written.
 use crate::operation::Operation;
 
 #[derive(Clone, Copy)]

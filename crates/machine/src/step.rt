@@ -42,6 +42,7 @@ impl Machine {
         }
     }
 
+    // The cause by its number: that of an interrupt is none of `Cause`'s.
     fn enter_handler(&mut self, back: u32, cause: u32)
         ensures { self.new ≡ entered back cause self.old }
     {

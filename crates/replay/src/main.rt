@@ -53,7 +53,7 @@ fn answer<U: Unit>(core: &mut Running<U>, call: Call) -> Answer
     }
 }
 
-// Answers the calls from `first` on.
+// Answers the calls from `first` on. The runtime beside the page: a page lends no allocator.
 fn answer_all<U: Unit>(
     rt: &HostRuntime,
     core: &mut Running<U>,

@@ -10,7 +10,7 @@ use report::stops::Stop;
 use std::fmt;
 use std::str::FromStr;
 
-// The unit under the core. `watch` takes `single` too, by the name alone: it runs the unit where it reads one.
+// The unit under the core. `watch` takes these names and `single`, and runs the unit where it reads its name.
 #[derive(Clone, Copy)]
 pub enum Kind {
     Plain,
@@ -113,7 +113,7 @@ impl Settings {
 }
 
 // As `options::arguments` walks its list: a trait over both would name settings, arguments, faults and five definitions
-// for these ten lines.
+// for these lines.
 fn parse_settings(texts: &[String]) -> Result<Settings, ArgumentLine<'_, SettingFault>> {
     let mut settings = Settings {
         pc: 0,

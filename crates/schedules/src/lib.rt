@@ -30,7 +30,7 @@ mod refusals {
     use std::test::Fail;
     use units::unit::Unit;
 
-    // How many words the core issues, and the number of the refusal after them.
+    // How many words the core issues, and the published number of the refusal after them, by which refusals are compared.
     fn issued(words: &[u32]) -> Result<(u8, u8), Fail> {
         let mut core = started(Plain::new(), words, 0)?;
         for tag in 0u8..20 {
@@ -69,7 +69,7 @@ mod budgets {
     // ADDI x1, x1, 1; MUL x2, x1, x1; DIV x3, x2, x1; BNE x1, x0, -12
     const LOOP: [u32; 4] = [0x0010_8093, 0x0210_8133, 0x0211_41b3, 0xfe00_9ae3];
 
-    // Cycles and retirements of a run from the start.
+    // Cycles and retirements of a run from the start, as two numbers: `Ran` has no equality.
     fn run<U: Unit + Drop>(
         unit: U,
         words: &[u32],
@@ -109,7 +109,8 @@ mod budgets {
         Ok(())
     }
 
-    // A product is offered three steps later, a quotient 32: a line for each budget, the last that is too short and the first that is not.
+    // A product is offered three steps later, a quotient 32: a line for each budget, the last that is too short and
+    // the first that is not.
     #[test]
     fn a_budget_of_one_cycle_less(rt: HostRuntime) -> Result<(), Fail> {
         assert_eq!(rt; run(Multiplier::new(), &[0x0210_8133], 1, 6)?, (6, 0));

@@ -39,7 +39,8 @@ impl Buffer {
         Ok(slot)
     }
 
-    // The entry in a slot is lent, and changed in place. Not by `get_mut`: no contract says what a write to what it lends changes.
+    // The entry in a slot is lent, and changed in place. Not by `get_mut`: its contract does not say what a write to
+    // what it lends changes.
     pub fn finish(&mut self, tag: u8, judgement: Judgement)
         ensures { self.new ≡ replaced tag (with_result judgement (entry_in self.old tag)) self.old }
     {

@@ -62,8 +62,8 @@ impl Stations {
         wake_all(&mut self.places, tag, value);
     }
 
-    // The job of the oldest entry that may go to a unit; none while the entry at the head waits for room. Room and head stay apart, since
-    // what compares ages reads the head alone, and what may go the room alone.
+    // The job of the oldest entry that may go to a unit; none while the entry at the head waits for room. Room and head stay
+    // apart, since what compares ages reads the head alone, and what may go the room alone.
     pub fn select(&self, room: Classes, head: u8) -> Option<Job>
         ensures { result ≡ goes (serves room) head self.now.places }
     {
@@ -95,8 +95,8 @@ fn wake_place(place: &mut Option<Station>, tag: u8, value: u32)
     }
 }
 
-// In place, here and below: the array's `map` copies every station, and a cycle then takes twice as long. Two loops, since `for_each` does
-// not say how its closure leaves the places, and was not proved.
+// In place, here and below: the array's `map` copies every station, and a cycle then takes twice as long. A loop each: `for_each`
+// does not say how its closure leaves the places, and was not proved.
 fn wake_all(places: &mut [Option<Station>], tag: u8, value: u32)
     ensures { places.new ≡ map (woken_place tag value) places.old }
 {

@@ -29,7 +29,7 @@ fn options_of(rt: &HostRuntime) -> Result<Options, Stop> {
     ))
 }
 
-// By a match, here and below: a closure for each report would carry the page.
+// By a match, here and below: a closure for each report would carry the page. The runtime beside it: a page lends no allocator.
 fn write_record(
     rt: &HostRuntime,
     page: &mut Page,

@@ -13,7 +13,7 @@ pub trait Unit {
     fn room(&self, class: Class) -> bool
         ensures { result ≡ means.room self.now class };
 
-    // Here and below each fact apart, and not the record of the call: what the check finds of a unit alone it finds apart.
+    // Here and below each fact is a clause of its own, not one record of the call: so the check finds more of a unit alone.
     fn take(&mut self, job: Job) -> Result<(), NoRoom>
         ensures answer { result ≡ take_answer (room_for means self.old job.word) }
         ensures same { Same means self.old self.new }

@@ -1,7 +1,5 @@
-use Rattle.std.proofs.Common.{◌≡◌, List, ℕ, Option, Some, false, subst, ap, ◌∙◌, arith}
-use Rattle.std.specs.Fmt.{digits, digits_output, styled_digits_output, padded_integral, format_spec, DisplaysOnOk}
-use Rattle.std.specs.Option.{option_map}
-use Rattle.std.proofs.Output.{has_written_of_eq}
+use Rattle.std.proofs.Common.{◌≡◌, Some, subst, ap, arith}
+use Rattle.std.specs.Fmt.{styled_digits_output, DisplaysOnOk}
 use Rattle.report.specs.Hex.{hex8}
 use Rattle.report.proofs.HexDigits.{padded8}
 use Rattle.report.proofs.hex.Hex8Display.fmt.Goals as goal
