@@ -3,7 +3,6 @@ ghost use Rattle.std.specs.Prelude.{◌≡◌, OnOk};
 ghost use Rattle.options.specs.Schedule.{line_stands};
 
 use crate::recording::Recording;
-use command::exit::said;
 use engines::{Engine, next_retirement};
 use machine::record::Record;
 use machine::state::Machine;
@@ -12,7 +11,12 @@ use report::hex::Hex8;
 use report::records::RecordLine;
 use report::stops::Stop;
 use std::alloc::{AllocError, Global};
-use std::fmt;
+use std::{fmt, io};
+
+// A fixed line, of at most 80 bytes: the error itself holds it, so it is told even where memory ran out.
+fn fixed(line: &str) -> Stop {
+    Stop::Failed(io::Error::other(line))
+}
 
 // The line that is expected, and the one that came instead, shown for people.
 #[derive(Clone, Copy)]
@@ -42,7 +46,7 @@ impl<'a> Comparison<'a> {
             return Ok(());
         }
         eprintln!(rt; "{self}")?;
-        Err(said(rt.alloc(), "a run differs"))
+        Err(fixed("a run differs"))
     }
 }
 
@@ -114,7 +118,7 @@ pub(crate) fn replay<E: Engine + Drop>(
         let words = recording.words.as_slice();
         engine = engine
             .restart(words, recording.pc, recording.vector)
-            .map_err(|_fault| said(rt.alloc(), "a program is not loaded"))?;
+            .map_err(|_fault| fixed("a program is not loaded"))?;
         follow(rt, &mut engine, recording)?;
     }
     let records = recordings.iter().fold(0usize, |sum, recording| {

@@ -20,7 +20,7 @@ fn digit_value(byte: u8) -> u32
     char::from(byte).to_digit(36).unwrap_or(36)
 }
 
-fn first_stranger(radix: u32, digits: &[u8]) -> Option<u8>
+pub(crate) fn first_stranger(radix: u32, digits: &[u8]) -> Option<u8>
     ensures { result ≡ first_stranger radix digits.now }
 {
     digits

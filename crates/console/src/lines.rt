@@ -62,10 +62,12 @@ fn trim_back(text: &[u8]) -> &[u8]
 fn parse_hex_word(text: &[u8]) -> Result<u32, WordFault>
     ensures { result ≡ hex_word text.now }
 {
-    let word = digits::parse(16, text)?;
+    // a text that is too wide is looked through, not worked out
     if text.len() > 8 {
-        return Err(WordFault::TooWide);
+        let stranger = digits::first_stranger(16, text);
+        return Err(stranger.map_or(WordFault::TooWide, WordFault::NotHex));
     }
+    let word = digits::parse(16, text)?;
     Ok(word as u32)
 }
 

@@ -1,15 +1,16 @@
 -- The states that follow meet what a unit promises.
 -- Assumes nothing.
-use Rattle.std.specs.Prelude.{◌≡◌, ℕ, ◌+◌, ◌-◌, ◌<◌, ◌≤◌, Bool, true, false, cond, Some, None, Option, ◌==◌, refl}
+use Rattle.std.specs.Prelude.{◌≡◌, ℕ, ◌+◌, ◌-◌, ◌^◌, ◌<◌, ◌≤◌, Bool, true, false, cond, Some, None, Ok, Err, Option, Result, ◌==◌, refl}
 use Rattle.std.proofs.Math.Decide.{dec_lt}
 use Rattle.std.proofs.Common.{arith, sym, ap, subst}
-use Rattle.std.proofs.lemmas.Bool.{eq-eqb, eqb-true}
+use Rattle.std.proofs.lemmas.Bool.{eq-eqb, ne_eqb, eqb-true}
 use Rattle.std.proofs.lemmas.Option.{none-some}
+use Rattle.refusal.specs.declared.NoRoom.{NoRoom}
 use Rattle.isa.specs.declared.operation.Class.{Class}
 use Rattle.units.specs.declared.job.Job.{Job}
 use Rattle.units.specs.declared.job.Offer.{Offer}
-use Rattle.units.specs.Jobs.{job_outcome}
-use Rattle.units.specs.Meaning.{Held, Fell, Moved, Stepped}
+use Rattle.units.specs.Jobs.{word_class, job_outcome}
+use Rattle.units.specs.Meaning.{Held, Fell, Moved, room_in, room_for, take_answer, Taken, Stepped}
 use Rattle.units.specs.Calls.{Keeps}
 use Rattle.divider.specs.declared.Divider.{Divider}
 use Rattle.divider.specs.declared.division.Division.{Division}
@@ -17,9 +18,9 @@ use Rattle.divider.specs.declared.working.Working.{Working as Work}
 use Rattle.divider.specs.declared.state.State.{State}
 use Rattle.divider.specs.declared.state.State.TheVariants.{Idle, Working, Finished}
 use Rattle.divider.specs.Divisions.{is_divide}
-use Rattle.divider.specs.States.{step_or, admitted, taken, took_in, stepped, stepped_in}
+use Rattle.divider.specs.States.{start_of, step_or, admitted, taken, took_in, stepped, stepped_in}
 use Rattle.divider.specs.Model.{held_under, held_in, room_of, outcome_in, offer_of, model, Sound, SoundState}
-use Rattle.divider.specs.ValuesLemmas.{job-done}
+use Rattle.divider.specs.ValuesLemmas.{word_room, word_no_room, job-done}
 
 -- the one job ------------------------------------------------------------------
 
@@ -41,10 +42,54 @@ own_tag job = eq-eqb job.tag job.tag refl
 
 -- take -------------------------------------------------------------------------
 
+-- there is room for a word that is admitted, and for no other
+no_room : (x : Option Class) → room_in (λ c. false) x ≡ false
+no_room (Some c) = refl
+no_room None = refl
+
+admitted-room : (s : State) (w : ℕ) (d : Division) → admitted s w ≡ Some d → room_in (room_of s) (word_class w) ≡ true
+admitted-room Idle w d e = word_room w d e
+admitted-room (Working v) w d e = absurd (none-some d e)
+admitted-room (Finished f) w d e = absurd (none-some d e)
+
+other_no_room : (s : State) (w : ℕ) → admitted s w ≡ None → room_in (room_of s) (word_class w) ≡ false
+other_no_room Idle w e = word_no_room w e
+other_no_room (Working v) w e = no_room (word_class w)
+other_no_room (Finished f) w e = no_room (word_class w)
+
+starts : (s : State) (job : Job) (d : Division) → admitted s job.word ≡ Some d → job.a < 2 ^ 32 → job.b < 2 ^ 32
+    → Taken model true (record { state = s }) job (record { state = Working (start_of d job) })
+starts Idle job d e h l sound free = (
+  record {
+    joins = rw (own_tag job);
+    others = λ t apart. rw (ne_eqb job.tag t (λ e. apart (sym e))) tt;
+  },
+  (e, h, l),
+)
+starts (Working v) job d e h l sound free = absurd (none-some d e)
+starts (Finished f) job d e h l sound free = absurd (none-some d e)
+
+abbrev answer_to : Option Division → Result (Unit {0}) NoRoom
+answer_to (Some d) = Ok tt
+answer_to None = Err (record {})
+
 module _ (u : Divider) (job : Job) where
   pub take_state : (x : Option Division) → admitted u.state job.word ≡ x
       → ◌≡◌ {A = Divider} (record { state = taken u.state x job }) (took_in u job)
   take_state x e = ap (λ (y : Option Division). record { state = taken u.state y job }) (sym e)
+
+  pub take_answer_lem : (x : Option Division) → admitted u.state job.word ≡ x
+      → answer_to x ≡ take_answer (room_for model u job.word)
+  take_answer_lem (Some d) e = ap take_answer (sym (admitted-room u.state job.word d e))
+  take_answer_lem None e = ap take_answer (sym (other_no_room u.state job.word e))
+
+  pub take_meets : (x : Option Division) → admitted u.state job.word ≡ x → job.a < 2 ^ 32 → job.b < 2 ^ 32
+      → Taken model (room_for model u job.word) u job (record { state = taken u.state x job })
+  take_meets (Some d) e h l =
+      subst (λ (r : Bool). Taken model r u job (record { state = Working (start_of d job) }))
+      (sym (admitted-room u.state job.word d e)) (starts u.state job d e h l)
+  take_meets None e h l =
+      subst (λ (r : Bool). Taken model r u job u) (sym (other_no_room u.state job.word e)) refl
 
 -- step -------------------------------------------------------------------------
 
@@ -91,7 +136,7 @@ step_meets accepted u sound = steps accepted u.state sound
 abbrev Within : State → Type 0
 Within s = (t : ℕ) (h : Held) → held_in s t ≡ Some h → (1 ≤ h.due) × (h.due ≤ 33)
 
-within : (s : State) → Within s
+pub within : (s : State) → Within s
 within Idle t h e = absurd (none-some h e)
 within (Working w) t h e =
     let short = w.short in
@@ -108,12 +153,12 @@ under_tag job due t h e =
     let same = one.1 in
     cc
 
-tagged : (s : State) (t : ℕ) (h : Held) → held_in s t ≡ Some h → h.job.tag ≡ t
+pub tagged : (s : State) (t : ℕ) (h : Held) → held_in s t ≡ Some h → h.job.tag ≡ t
 tagged Idle t h e = absurd (none-some h e)
 tagged (Working w) t h e = under_tag w.job (33 - w.steps) t h e
 tagged (Finished f) t h e = under_tag f.job 1 t h e
 
-offered : (s : State) → SoundState s → (o : Offer) → offer_of s ≡ Some o
+pub offered : (s : State) → SoundState s → (o : Offer) → offer_of s ≡ Some o
     → (h : Held) × (held_in s o.tag ≡ Some h) × (job_outcome h.job ≡ Some o.outcome)
 offered Idle sound o e = absurd (none-some o e)
 offered (Working w) sound o e = absurd (none-some o e)
@@ -124,7 +169,7 @@ offered (Finished f) sound o e =
     subst (λ (o : Offer). (h : Held) × (held_in (Finished f) o.tag ≡ Some h) × (job_outcome h.job ≡ Some o.outcome)) same
     (record { job = f.job; due = 1 }, held, sound)
 
-roomy : (s : State) (c : Class) → room_of s c ≡ true → is_divide c ≡ true
+pub roomy : (s : State) (c : Class) → room_of s c ≡ true → is_divide c ≡ true
 roomy Idle c e = e
 roomy (Working w) c e = cc
 roomy (Finished f) c e = cc
@@ -133,7 +178,7 @@ roomy (Finished f) c e = cc
 found : {P : Type 0} (job : Job) (due : ℕ) → held_under job due job.tag ≡ None → P
 found job due e = absurd (none-some (record { job = job; due = due }) (sym (rw (own_tag job) at e)))
 
-empty-roomy : (s : State) → ((t : ℕ) → held_in s t ≡ None) → (c : Class) → is_divide c ≡ true → room_of s c ≡ true
+pub empty-roomy : (s : State) → ((t : ℕ) → held_in s t ≡ None) → (c : Class) → is_divide c ≡ true → room_of s c ≡ true
 empty-roomy Idle none c e = e
 empty-roomy (Working w) none c e = found w.job (33 - w.steps) (none w.job.tag)
 empty-roomy (Finished f) none c e = found f.job 1 (none f.job.tag)

@@ -10,13 +10,15 @@ use Rattle.isa.specs.declared.instruction.Instruction.{Instruction}
 use Rattle.isa.specs.declared.operation.Operation.{Operation}
 use Rattle.isa.specs.declared.operation.Operation.TheVariants.{Lui, Auipc, Jal, Jalr, Beq, Bne, Blt, Bge, Bltu, Bgeu, Addi, Slti, Sltiu, Xori, Ori, Andi, Slli, Srli, Srai, Add, Sub, Sll, Slt, Sltu, Xor, Srl, Sra, Or, And, Mul, Div, Divu, Rem, Remu, Ecall, Ebreak, Mret}
 use Rattle.isa.specs.declared.outcome.Outcome.TheVariants.{Done}
+use Rattle.isa.specs.Classes.{class_of}
 use Rattle.refusal.specs.declared.IllegalWord.{IllegalWord}
 use Rattle.words.specs.Words.{read_word}
 use Rattle.execute.specs.Outcomes.{residue, quotient_unsigned, remainder_unsigned, sum, outcome_of}
 use Rattle.units.specs.declared.job.Job.{Job}
-use Rattle.units.specs.Jobs.{outcome_read, job_outcome}
+use Rattle.units.specs.Jobs.{class_read, word_class, outcome_read, job_outcome}
+use Rattle.units.specs.Meaning.{room_in}
 use Rattle.divider.specs.declared.division.Division.{Division}
-use Rattle.divider.specs.Divisions.{division_of, division_read, division_in}
+use Rattle.divider.specs.Divisions.{is_divide, division_of, division_read, division_in}
 use Rattle.divider.specs.Restoring.{quotient_at, remainder_at}
 use Rattle.divider.specs.Signs.{operand, magnitude, negative, negated, differ, result_of}
 use Rattle.divider.specs.RestoringLemmas.{all_bits, not_zero}
@@ -88,68 +90,76 @@ unsigned_remainder : (a b : ℕ) (h : a < 2 ^ 32) (l : b < 2 ^ 32)
 unsigned_remainder a b h l =
     remainder_of false a h b l ∙ ap (cond (b == 0) a) (residue_of false (a % b) (omega (arith, mod-le a b)))
 
--- the result of the division that an operation asks for is its outcome
+-- an operation that asks for a division is of class Divide, and its result is the outcome
 abbrev Answers : Option Division → Operation → Type 0
-Answers None o = Unit {0}
-Answers (Some d) o = (z : ℤ) (pc a b : ℕ) → a < 2 ^ 32 → b < 2 ^ 32
-    → outcome_of (record { operation = o; rd = 0; rs1 = 0; rs2 = 0; immediate = z }) pc a b ≡ Some (Done (result_of d a b) (sum pc 4))
+Answers None o = room_in is_divide (class_of o) ≡ false
+Answers (Some d) o = (room_in is_divide (class_of o) ≡ true) × ((z : ℤ) (pc a b : ℕ) → a < 2 ^ 32 → b < 2 ^ 32
+    → outcome_of (record { operation = o; rd = 0; rs1 = 0; rs2 = 0; immediate = z }) pc a b ≡ Some (Done (result_of d a b) (sum pc 4)))
 
 answers : (o : Operation) → Answers (division_of o) o
-answers Lui = tt
-answers Auipc = tt
-answers Jal = tt
-answers Jalr = tt
-answers Beq = tt
-answers Bne = tt
-answers Blt = tt
-answers Bge = tt
-answers Bltu = tt
-answers Bgeu = tt
-answers Addi = tt
-answers Slti = tt
-answers Sltiu = tt
-answers Xori = tt
-answers Ori = tt
-answers Andi = tt
-answers Slli = tt
-answers Srli = tt
-answers Srai = tt
-answers Add = tt
-answers Sub = tt
-answers Sll = tt
-answers Slt = tt
-answers Sltu = tt
-answers Xor = tt
-answers Srl = tt
-answers Sra = tt
-answers Or = tt
-answers And = tt
-answers Mul = tt
-answers Div = λ z pc a b h l. ap (λ v. Some (Done v (sum pc 4))) (sym (quotient_of true a h b l))
-answers Divu = λ z pc a b h l. ap (λ v. Some (Done v (sum pc 4))) (sym (unsigned_quotient a b h l))
-answers Rem = λ z pc a b h l. ap (λ v. Some (Done v (sum pc 4))) (sym (remainder_of true a h b l))
-answers Remu = λ z pc a b h l. ap (λ v. Some (Done v (sum pc 4))) (sym (unsigned_remainder a b h l))
-answers Ecall = tt
-answers Ebreak = tt
-answers Mret = tt
+answers Lui = refl
+answers Auipc = refl
+answers Jal = refl
+answers Jalr = refl
+answers Beq = refl
+answers Bne = refl
+answers Blt = refl
+answers Bge = refl
+answers Bltu = refl
+answers Bgeu = refl
+answers Addi = refl
+answers Slti = refl
+answers Sltiu = refl
+answers Xori = refl
+answers Ori = refl
+answers Andi = refl
+answers Slli = refl
+answers Srli = refl
+answers Srai = refl
+answers Add = refl
+answers Sub = refl
+answers Sll = refl
+answers Slt = refl
+answers Sltu = refl
+answers Xor = refl
+answers Srl = refl
+answers Sra = refl
+answers Or = refl
+answers And = refl
+answers Mul = refl
+answers Div = (refl, λ z pc a b h l. ap (λ v. Some (Done v (sum pc 4))) (sym (quotient_of true a h b l)))
+answers Divu = (refl, λ z pc a b h l. ap (λ v. Some (Done v (sum pc 4))) (sym (unsigned_quotient a b h l)))
+answers Rem = (refl, λ z pc a b h l. ap (λ v. Some (Done v (sum pc 4))) (sym (remainder_of true a h b l)))
+answers Remu = (refl, λ z pc a b h l. ap (λ v. Some (Done v (sum pc 4))) (sym (unsigned_remainder a b h l)))
+answers Ecall = refl
+answers Ebreak = refl
+answers Mret = refl
 
 -- the same of what a word reads as
 abbrev AnswersRead : Option Division → Result Instruction IllegalWord → Type 0
-AnswersRead None x = Unit {0}
-AnswersRead (Some d) x = (pc a b : ℕ) → a < 2 ^ 32 → b < 2 ^ 32 → outcome_read x pc a b ≡ Some (Done (result_of d a b) (sum pc 4))
+AnswersRead None x = room_in is_divide (class_read x) ≡ false
+AnswersRead (Some d) x = (room_in is_divide (class_read x) ≡ true) × ((pc a b : ℕ) → a < 2 ^ 32 → b < 2 ^ 32
+    → outcome_read x pc a b ≡ Some (Done (result_of d a b) (sum pc 4)))
 
 lift : (y : Option Division) (i : Instruction) → Answers y i.operation → AnswersRead y (Ok i)
 lift None i p = p
-lift (Some d) i p = p i.immediate
+lift (Some d) i p = (p.0, p.1 i.immediate)
 
 answers-read : (x : Result Instruction IllegalWord) → AnswersRead (division_read x) x
 answers-read (Ok i) = lift (division_of i.operation) i (answers i.operation)
-answers-read (Err e) = tt
+answers-read (Err e) = refl
 
 at_word : (w : ℕ) (y : Option Division) → division_in w ≡ y → AnswersRead y (read_word w)
 at_word w y e = subst (λ (z : Option Division). AnswersRead z (read_word w)) e (answers-read (read_word w))
 
+-- whether an idle divider has room for a word
+pub word_room : (w : ℕ) (d : Division) → division_in w ≡ Some d → room_in is_divide (word_class w) ≡ true
+word_room w d e = (at_word w (Some d) e).0
+
+pub word_no_room : (w : ℕ) → division_in w ≡ None → room_in is_divide (word_class w) ≡ false
+word_no_room w e = at_word w None e
+
 -- the result is the outcome of the job
 pub job-done : (job : Job) (d : Division) → division_in job.word ≡ Some d → job.a < 2 ^ 32 → job.b < 2 ^ 32
     → job_outcome job ≡ Some (Done (result_of d job.a job.b) (sum job.pc 4))
-job-done job d e h l = at_word job.word (Some d) e job.pc job.a job.b h l
+job-done job d e h l = (at_word job.word (Some d) e).1 job.pc job.a job.b h l

@@ -55,22 +55,22 @@ module _ {A : Type 0} (L N : ℕ) (serves : Class → Bool) (jobs : A → List T
   abbrev unit : UnitModel A
   unit = pipeline L N serves jobs
 
-  dues : (u : A) → Sound N (jobs u) → Dues unit u
+  pub dues : (u : A) → Sound N (jobs u) → Dues unit u
   dues u s t h e =
       let i = if_held (InTurn L 0 (length (jobs u)) t) (held_from L 0 (jobs u) t) h (in_turn L 0 (jobs u) t) e in
       (omega (arith, i.later), omega (arith, i.soon, s.few))
 
-  tags : (u : A) → Tags unit u
+  pub tags : (u : A) → Tags unit u
   tags u t h e =
       (if_held (InTurn L 0 (length (jobs u)) t) (held_from L 0 (jobs u) t) h (in_turn L 0 (jobs u) t) e).tagged
 
-  offers : (u : A) → Offers unit u
+  pub offers : (u : A) → Offers unit u
   offers u o e = offer-held L (jobs u) o e
 
-  rooms : (u : A) → Rooms unit u
+  pub rooms : (u : A) → Rooms unit u
   rooms u c e = (and_parts (serves c) (nat_lt (length (jobs u)) N) e).0
 
-  empty-rooms : 0 < N → (u : A) → EmptyRooms unit u
+  pub empty-rooms : 0 < N → (u : A) → EmptyRooms unit u
   empty-rooms some u none c e =
       let l = empty-length L (jobs u) none in
       and_from (serves c) (nat_lt (length (jobs u)) N) e (lt-ltb (length (jobs u)) N (omega arith))

@@ -21,7 +21,7 @@ held_here : (j : Job) → held_in (Some j) j.tag ≡ Some (record { job = j; due
 held_here j = ap (λ b. cond b (Some (record { job = j; due = 1 })) None) (eq-eqb j.tag j.tag refl)
 
 -- what is offered is its job's outcome
-offers : (o : Option Job) → Sound o → (x : Offer) → offer_in o ≡ Some x
+pub offers : (o : Option Job) → Sound o → (x : Offer) → offer_in o ≡ Some x
     → (h : Held) × (held_in o x.tag ≡ Some h) × (job_outcome h.job ≡ Some x.outcome)
 offers None s x e = absurd cc
 offers (Some j) s x e =
@@ -32,7 +32,7 @@ offers (Some j) s x e =
     (record { job = j; due = 1 }, ap (held_in (Some j)) (sym tag) ∙ held_here j, s.1 ∙ ap Some out)
 
 -- without a job there is room for what is served
-empty-rooms : (o : Option Job) → ((t : ℕ) → held_in o t ≡ None) → (c : Class) → serves_plain c ≡ true → room_beside o c ≡ true
+pub empty-rooms : (o : Option Job) → ((t : ℕ) → held_in o t ≡ None) → (c : Class) → serves_plain c ≡ true → room_beside o c ≡ true
 empty-rooms None h c e = ap (λ b. b && true) e
 empty-rooms (Some j) h c e =
     let gone = sym (held_here j) ∙ h j.tag in

@@ -1,7 +1,7 @@
 // The eight reservation stations: each serves every class.
 ghost use Rattle.std.specs.Prelude.{◌≡◌, map};
 ghost use Rattle.machine.specs.Classes.{serves};
-ghost use Rattle.tables.specs.Waiting.{no_stations, any_free, all_placed, all_woken, all_freed, woken_place, freed_place, age, older, candidate, blocked_in, blocked, oldest_ready, goes};
+ghost use Rattle.tables.specs.Waiting.{no_stations, any_free, all_placed, all_woken, all_freed, woken_place, freed_place, age, older, goes};
 
 use crate::station::Station;
 use machine::classes::Classes;
@@ -67,10 +67,7 @@ impl Stations {
     pub fn select(&self, room: Classes, head: u8) -> Option<Job>
         ensures { result ≡ goes (serves room) head self.now.places }
     {
-        if blocked(&self.places, room, head) {
-            return None;
-        }
-        oldest_ready(&self.places, room, head)
+        select_from(&self.places, room, head)
     }
 
     // The job under a tag has gone to a unit.
@@ -121,33 +118,23 @@ fn free_all(places: &mut [Option<Station>], tag: u8)
     }
 }
 
-// The job that may go from a place.
-fn candidate(place: &Option<Station>, room: Classes) -> Option<Job>
-    ensures { result ≡ candidate (serves room) place.now }
+// In one pass, and by reference: two passes, each over copies of the stations, take a third longer.
+fn select_from(places: &[Option<Station>], room: Classes, head: u8) -> Option<Job>
+    ensures { result ≡ goes (serves room) head places.now }
 {
-    place
-        .filter(|station| room.has(station.class))
-        .and_then(|station| station.job())
-}
-
-// Whether the entry at the head waits in a place for room.
-fn blocked_in(place: &Option<Station>, room: Classes, head: u8) -> bool
-    ensures { result ≡ blocked_in (serves room) head place.now }
-{
-    place.is_some_and(|station| station.tag == head && !room.has(station.class))
-}
-
-fn blocked(places: &[Option<Station>], room: Classes, head: u8) -> bool
-    ensures { result ≡ blocked (serves room) head places.now }
-{
-    places.iter().any(|place| blocked_in(place, room, head))
-}
-
-fn oldest_ready(places: &[Option<Station>], room: Classes, head: u8) -> Option<Job>
-    ensures { result ≡ oldest_ready (serves room) head places.now }
-{
-    places.iter().fold(
-        None,
-        |oldest, place| older(head, oldest, candidate(place, room)),
-    )
+    let mut oldest = None;
+    for place in places {
+        let Some(station) = place else {
+            continue;
+        };
+        if room.has(station.class) {
+            let job = station.job();
+            if job.is_some() {
+                oldest = older(head, oldest, job);
+            }
+        } else if station.tag == head {
+            return None;
+        }
+    }
+    oldest
 }

@@ -13,8 +13,6 @@ use refusal::NoRoom;
 use report::hex::Hex8;
 use report::stops::Stop;
 use single::Single;
-use std::alloc::AllocError;
-use std::collections::BTreeSet;
 use std::process::ExitCode;
 use std::{env, fmt, io};
 use units::job::{Job, Offer};
@@ -48,14 +46,34 @@ impl fmt::Display for Attempt {
     }
 }
 
-// The tags of the jobs that the unit was given and that have not left.
-#[derive(Drop)]
-struct Held(BTreeSet<u8>);
+// The tags of the jobs that the unit was given and that have not left. A table, since a step must not run out of memory.
+#[derive(Clone, Copy)]
+struct Held([bool; 256]);
+
+impl Held {
+    fn contains(&self, tag: u8) -> bool {
+        self.0[usize::from(tag)]
+    }
+
+    fn insert(&mut self, tag: u8) {
+        self.0[usize::from(tag)] = true;
+    }
+
+    fn remove(&mut self, tag: u8) {
+        self.0[usize::from(tag)] = false;
+    }
+
+    fn is_empty(&self) -> bool {
+        !self.0.contains(&true)
+    }
+}
 
 impl fmt::Display for Held {
     fn fmt<W: fmt::Write>(&self, f: &mut fmt::Formatter<W>) -> fmt::Result {
-        for tag in &self.0 {
-            write!(f, " {tag}")?;
+        for (tag, held) in self.0.iter().enumerate() {
+            if *held {
+                write!(f, " {tag}")?;
+            }
         }
         Ok(())
     }
@@ -89,29 +107,29 @@ struct Bench<'a, U> {
 }
 
 impl<'a, U: Unit> Bench<'a, U> {
-    fn give(&mut self) -> Result<Attempt, AllocError> {
+    fn give(&mut self) -> Attempt {
         let [job, rest @ ..] = self.waiting else {
-            return Ok(Attempt::NoJob);
+            return Attempt::NoJob;
         };
         let tag = job.tag;
-        if self.held.0.contains(&tag) {
-            return Ok(Attempt::Waits(tag));
+        if self.held.contains(tag) {
+            return Attempt::Waits(tag);
         }
         if self.unit.take(*job).is_ok() {
-            self.held.0.insert(tag)?;
+            self.held.insert(tag);
             self.waiting = rest;
-            Ok(Attempt::Taken(tag))
-        } else if self.held.0.is_empty() {
+            Attempt::Taken(tag)
+        } else if self.held.is_empty() {
             // a unit without jobs has room for each of its classes: it will never take this one
             self.waiting = rest;
-            Ok(Attempt::Dropped(tag))
+            Attempt::Dropped(tag)
         } else {
-            Ok(Attempt::Refused(tag))
+            Attempt::Refused(tag)
         }
     }
 
     fn step(&mut self, rt: &HostRuntime, number: usize) -> Result<(), Stop> {
-        let attempt = self.give()?;
+        let attempt = self.give();
         let offer = self.unit.offer();
         println!(rt;
             "step {number}: {attempt}; held{}; {}",
@@ -121,7 +139,7 @@ impl<'a, U: Unit> Bench<'a, U> {
         self.unit.step(true);
         // the accepted offer leaves
         if let Some(Offer { tag, .. }) = offer {
-            self.held.0.remove(&tag);
+            self.held.remove(tag);
         }
         Ok(())
     }
@@ -132,11 +150,11 @@ fn watch<U: Unit + Drop>(rt: &HostRuntime, mut unit: U, jobs: &[Job]) -> Result<
     let mut bench = Bench {
         unit,
         waiting: jobs,
-        held: Held(BTreeSet::new(rt.alloc())),
+        held: Held([false; 256]),
     };
     let limit = jobs.len().saturating_mul(STEPS_A_JOB);
     for number in 0..limit {
-        if bench.waiting.is_empty() && bench.held.0.is_empty() {
+        if bench.waiting.is_empty() && bench.held.is_empty() {
             break;
         }
         bench.step(rt, number)?;
