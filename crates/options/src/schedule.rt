@@ -9,13 +9,20 @@ pub struct LineEvent {
     pub up: bool,
 }
 
-// The newest event that has come decides, and among equally new ones the last.
+// The newest event that has come decides, and among equally new ones the last. Not by `max_by_key`, which takes a third longer
+// where many events have come; nor inlined into a loop over retirements, where this takes twice as long.
+#[inline(never)]
 pub fn line_stands(events: &[LineEvent], retired: u64) -> bool
     ensures { result ≡ line_stands events.now retired }
 {
-    events
-        .iter()
-        .filter(|event| event.after <= retired)
-        .max_by_key(|event| event.after)
-        .is_some_and(|event| event.up)
+    let mut newest = LineEvent {
+        after: 0,
+        up: false,
+    };
+    for event in events.iter().filter(|event| event.after <= retired) {
+        if newest.after <= event.after {
+            newest = *event;
+        }
+    }
+    newest.up
 }
