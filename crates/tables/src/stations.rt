@@ -118,7 +118,7 @@ fn free_all(places: &mut [Option<Station>], tag: u8)
     }
 }
 
-// In one pass, and by reference: two passes, each over copies of the stations, take a third longer.
+// In one pass, and by reference: two passes, each over copies of the stations, take up to three times as long.
 fn select_from(places: &[Option<Station>], room: Classes, head: u8) -> Option<Job>
     ensures { result ≡ goes (serves room) head places.now }
 {
